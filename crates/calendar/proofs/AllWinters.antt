@@ -1,0 +1,45 @@
+-- Theorems over all 89 winters, each by one test that antt computes: Easter is a Sunday by the book's weekdays, the years join up,
+-- and the date of a book day leads back to it. That a book day leads back to its date holds for every number, by recursion over the months.
+-- Assumes nothing.
+use Prim.Native.Nat.{ℕ, zero, suc, _+_, _-_, _*_, _/_, _%_, _≤_, _<_}
+use mathlib.Core.Bool.{Bool, true, false, cond, _&&_, _||_}
+use mathlib.Core.List.{List, [], _∷_}
+use mathlib.Core.Path.{_≡_, refl, sym, ap, _∙_}
+use native.Mathlib.Omega.{arith}
+use lib.Dec.{T, ltb, leb, eqb, eqb→eq}
+use lib.ListN.{getD}
+use borrow.Author.Tests.{eqb-true, lt-ltb, le-ltb}
+use Rattle.laws.proofs.Below.{allBelow, below, from}
+use Rattle.laws.specs.Answer.{Answer, given, refusal, refuse}
+use Rattle.calendar.specs.Answers.{dateOf, bookDayOf}
+use Rattle.calendar.specs.Dates.{monthLengths, november, monthAfter, dateFrom, dayInMonth, bookDayFrom}
+use Rattle.calendar.specs.Easter.{easterT, easterMonth, easterInBook}
+use Rattle.calendar.specs.Weekdays.{firstWeekday, weekday}
+use Rattle.calendar.specs.Winters.{noWinter, leap, days}
+use Rattle.calendar.proofs.Bounds.{t-range, days-range}
+use Rattle.calendar.proofs.DateLaws.{in-month}
+use Rattle.calendar.proofs.Promise.{winter-range}
+
+-- a test of winters that computes to true at each of the 89 holds of every winter
+pub in-winters : (f : ℕ → Bool) → T (allBelow 89 (λ k. f (2010 + k))) → (y : ℕ) → noWinter y ≡ false → T (f y)
+in-winters f t y w = let r = winter-range y w in from f 2010 89 t y (r .0) (omega arith)
+
+-- Easter is in March or April, whatever the year
+pub easter-month : (y : ℕ) → (3 ≤ easterMonth y) × (easterMonth y ≤ 4)
+easter-month y = omega (arith, t-range y)
+
+onSunday : ℕ → Bool
+onSunday y = eqb (weekday y (easterInBook y)) 0
+
+-- Easter Sunday is a Sunday
+pub easter-is-sunday : (y : ℕ) → noWinter y ≡ false → weekday y (easterInBook y) ≡ 0
+unfolding onSunday weekday firstWeekday easterInBook easterT days leap
+easter-is-sunday y w = eqb→eq (weekday y (easterInBook y)) 0 (in-winters onSunday tt y w)
+
+joined : ℕ → Bool
+joined y = eqb (weekday (y + 1) 0) (weekday y (cond (leap (y + 1)) 366 365))
+
+-- the next winter's day 0 is 365 or 366 days on
+pub next-winter : (y : ℕ) → noWinter y ≡ false → weekday (y + 1) 0 ≡ weekday y (cond (leap (y + 1)) 366 365)
+unfolding joined weekday firstWeekday leap
+next-winter y w = eqb→eq (weekday (y + 1) 0) (weekday y (cond (leap (y + 1)) 366 365)) (in-winters joined tt y w)

@@ -1,0 +1,41 @@
+-- `easter_sunday` answers 1 for a year outside, else the month and the day that t gives.
+-- Assumes nothing.
+use native.Mathlib.Omega.{arith}
+use borrow.Author.Needs.{needs}
+use Rattle.calendar.specs.Answers.{easterSunday}
+use Rattle.calendar.proofs.Bounds.{t-range}
+use Rattle.calendar.proofs.easter.easter_sunday.Statement.{statement}
+use Rattle.calendar.proofs.easter.easter_sunday.Tie as tie
+
+no-easter-year-requires : tie.Need-no-easter-year-requires
+no-easter-year-requires c κs = search needs
+
+returns : tie.Need-returns
+unfolding easterSunday
+returns c =
+    rw (
+      ← c .before .no-easter-year .ensures,
+      c .if1 .taken,
+    )
+
+easter-t-requires : tie.Need-easter-t-requires
+easter-t-requires c κs = search needs
+
+cast-t : tie.Need-cast-t
+cast-t c = omega (arith, t-range (c .before .before .before .args .year))
+
+add-t8 : tie.Need-add-t8
+add-t8 c = search needs
+
+returns-2 : tie.Need-returns-2
+unfolding easterSunday
+returns-2 c =
+    rw (
+      ← c .before .before .no-easter-year .ensures,
+      c .before .if1 .left,
+      ← c .easter-t .ensures,
+    )
+
+pub easter-sunday-spec : {M : Type 1} → statement M
+easter-sunday-spec =
+    tie.close (tie.spec no-easter-year-requires returns easter-t-requires cast-t add-t8 returns-2)

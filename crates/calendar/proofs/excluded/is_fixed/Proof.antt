@@ -1,0 +1,66 @@
+-- `is_fixed` finds whether the day is in the table of fixed days.
+-- The invariant: whether it is among the days from i on is whether it is among them all.
+-- Assumes nothing.
+use Prim.Native.Nat.{ℕ, _≤_, _-_}
+use mathlib.Core.Path.{_≡_, _∙_, sym, ap}
+use native.Mathlib.Omega.{arith}
+use lib.ListN.{drop}
+use borrow.Author.Needs.{needs}
+use Rattle.calendar.specs.Excluded.{among, fixedDays}
+use Rattle.calendar.proofs.ExcludedLaws.{among-found, among-skip}
+use Rattle.calendar.proofs.excluded.is_fixed.Statement.{statement}
+use Rattle.calendar.proofs.excluded.is_fixed.Tie as tie
+
+abbrev Inv-loop : tie.InvT-loop
+Inv-loop day i₀ i = (i ≤ 6) × (among day (drop i fixedDays) ≡ among day fixedDays)
+
+abbrev μ-loop : tie.MeasureT-loop
+μ-loop day i₀ i = 6 - i
+
+loop-holds : tie.Need-loop-holds Inv-loop μ-loop
+loop-holds c = search needs
+
+mul-if1 : tie.Need-mul-if1 Inv-loop μ-loop
+mul-if1 c = search needs
+
+array-read-if1 : tie.Need-array-read-if1 Inv-loop μ-loop
+array-read-if1 c = search needs
+
+returns : tie.Need-returns Inv-loop μ-loop
+returns c =
+    sym (among-found (c .before .before .before .args .day) fixedDays (c .before .before .loop .i) (c .before .loop-test .taken) (c .if1 .taken))
+    ∙ c .before .before .loop .inv .1
+
+add-i : tie.Need-add-i Inv-loop μ-loop
+add-i c = search needs
+
+loop-less : tie.Need-loop-less Inv-loop μ-loop
+loop-less c = search needs
+
+loop-again : tie.Need-loop-again Inv-loop μ-loop
+loop-again c = (
+  search needs,
+  sym (among-skip (c .before .before .before .args .day) fixedDays (c .before .before .loop .i) (c .before .loop-test .taken) (c .if1 .left))
+      ∙ c .before .before .loop .inv .1,
+)
+
+returns-2 : tie.Need-returns-2 Inv-loop μ-loop
+unfolding among
+returns-2 c =
+    let e : c .before .loop .i ≡ 6 = omega arith in
+    sym (ap (λ (k : ℕ). among (c .before .before .args .day) (drop k fixedDays)) e) ∙ c .before .loop .inv .1
+
+pub is-fixed-spec : {M : Type 1} → statement M
+is-fixed-spec =
+    tie.close
+    (tie.spec
+    Inv-loop
+    μ-loop
+    loop-holds
+    mul-if1
+    array-read-if1
+    returns
+    add-i
+    loop-less
+    loop-again
+    returns-2)

@@ -1,0 +1,39 @@
+-- Easter Sunday, by document 01's formula and in its letters.
+-- Assumes nothing.
+use Prim.Native.Nat.{ℕ, _+_, _-_, _*_, _/_, _%_}
+use mathlib.Core.Bool.{Bool, _||_}
+use lib.Dec.{ltb}
+use Rattle.calendar.specs.Winters.{days}
+
+-- "(Easter: a year outside 2011..2099)"
+unfoldable pub noEasterYear : ℕ → Bool
+noEasterYear y = ltb y 2011 || ltb 2099 y
+
+-- "Easter Sunday of year y, Gregorian: a = y mod 19, .., t = h+l-7m+114."
+unfoldable pub easterT : ℕ → ℕ
+easterT y =
+    let a = y % 19 in
+    let b = y / 100 in
+    let c = y % 100 in
+    let d = b / 4 in
+    let e = b % 4 in
+    let f = (b + 8) / 25 in
+    let g = (b - f + 1) / 3 in
+    let h = (19 * a + b - d - g + 15) % 30 in
+    let i = c / 4 in
+    let k = c % 4 in
+    let l = (32 + 2 * e + 2 * i - h - k) % 7 in
+    let m = (a + 11 * h + 22 * l) / 451 in
+    h + l - 7 * m + 114
+
+-- "The month is t div 31, the day t mod 31 + 1."
+abbrev pub easterMonth : ℕ → ℕ
+easterMonth y = easterT y / 31
+
+abbrev pub easterDay : ℕ → ℕ
+easterDay y = easterT y % 31 + 1
+
+-- Easter Sunday of the year after as a day of the book of winter y, the count going on past the book's end:
+-- k March is day N - 32 + k, since 31 March is day N - 1, and k April comes 31 days after k March
+unfoldable pub easterInBook : ℕ → ℕ
+easterInBook y = days y - 32 + 31 * (easterMonth (y + 1) - 3) + easterDay (y + 1)

@@ -1,0 +1,29 @@
+// The day's part of a lent book.
+ghost use mathlib.Core.Path.{_≡_};
+ghost use Prim.Native.Nat.{_+_, _*_};
+ghost use lib.ListN.{length};
+ghost use Rattle.calendar.specs.Book.{noPart, dayReadings, partStart};
+use crate::winters::days_in;
+use crate::winters::no_day;
+use crate::winters::no_winter;
+
+// Whether a book of that length has no part for the day: the winter, the length or the day is wrong.
+fn no_part(winter: u32, length: usize, day: u32) -> bool
+    ensures { λ r. ⌜ r ≡ noPart winter length day ⌝ }
+{
+    no_winter(winter) | (length != 24 * (days_in(winter) as usize)) | no_day(winter, day)
+}
+
+// A day's 24 readings: that very part of the lent book, 96 bytes a day from its start; the empty part where the winter,
+// the book's length or the day is wrong.
+pub fn day_readings(winter: u32, book: &[u32], day: u32) -> &[u32]
+    ensures contents { λ r. ⌜ now r ≡ dayReadings winter (now (book .entry)) day ⌝ }
+    ensures place { λ r. ⌜ (r .ptr .0 ≡ book .entry .ptr .0) × (r .ptr .1 ≡ book .entry .ptr .1 + 4 * partStart winter (length (now (book .entry))) day) ⌝ }
+{
+    if no_part(winter, book.len(), day) {
+        return &book[0..0];
+    }
+    let start = 24 * (day as usize);
+    let end = start + 24;
+    &book[start..end]
+}

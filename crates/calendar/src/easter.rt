@@ -1,0 +1,54 @@
+// Easter Sunday.
+ghost use mathlib.Core.Path.{_≡_};
+ghost use Prim.Native.Nat.{_≤_};
+ghost use Rattle.calendar.specs.Easter.{noEasterYear, easterT, easterInBook};
+ghost use Rattle.calendar.specs.Answers.{sundayPaper, easterSunday};
+use crate::answers::Sunday;
+use crate::winters::days_in;
+
+// Whether a year is outside those whose Easter can fall into a winter.
+fn no_easter_year(year: u32) -> bool
+    ensures { λ r. ⌜ r ≡ noEasterYear year ⌝ }
+{
+    (year < 2011) | (2099 < year)
+}
+
+// Document 01's t, in its letters: the month of Easter Sunday is t div 31, the day t mod 31 + 1. In 64 bits no step wraps.
+fn easter_t(y: u64) -> u64
+    ensures { λ r. ⌜ r ≡ easterT y ⌝ }
+{
+    let a = y % 19;
+    let b = y / 100;
+    let c = y % 100;
+    let d = b / 4;
+    let e = b % 4;
+    let f = (b + 8) / 25;
+    let g = (b - f + 1) / 3;
+    let h = (19 * a + b - d - g + 15) % 30;
+    let i = c / 4;
+    let k = c % 4;
+    let l = (32 + 2 * e + 2 * i - h - k) % 7;
+    let m = (a + 11 * h + 22 * l) / 451;
+    h + l - 7 * m + 114
+}
+
+// Easter Sunday of the year after as a day of the winter's book; it may lie after the book's end.
+pub(crate) fn easter_in_book(winter: u32) -> u32
+    ensures { λ r. ⌜ r ≡ easterInBook winter ⌝ }
+{
+    let t = easter_t(winter as u64 + 1) as u32;
+    let month = t / 31;
+    let day = t % 31 + 1;
+    days_in(winter) - 32 + 31 * (month - 3) + day
+}
+
+// Easter Sunday of a year, 2011 to 2099: its month and day.
+pub fn easter_sunday(year: u32) -> Sunday
+    ensures { λ r. ⌜ sundayPaper r ≡ easterSunday year ⌝ }
+{
+    if no_easter_year(year) {
+        return Sunday::NoYear;
+    }
+    let t = easter_t(year as u64) as u32;
+    Sunday::On(t / 31, t % 31 + 1)
+}

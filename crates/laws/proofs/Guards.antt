@@ -1,0 +1,16 @@
+-- Guards: what the test of a callee's result tells of what the callee computes, and of the parts of a test.
+-- Assumes nothing.
+use mathlib.Core.Bool.{Bool, true, false, _&&_, _||_, and-eq-true-iff}
+use mathlib.Core.Path.{_≡_, sym, _∙_}
+use mathlib.Mathlib.Data.Bool.Basic.{or-eq-false-eq-eq-false-and-eq-false}
+
+-- the result r of a callee that ensures r ≡ s came out as t
+pub found : {r s t : Bool} → r ≡ s → r ≡ t → s ≡ t
+found e t = sym e ∙ t
+
+-- a test of two parts that passed, and one that found no fault
+pub both : (a b : Bool) → (a && b) ≡ true → (a ≡ true) × (b ≡ true)
+both a b e = and-eq-true-iff a b .0 e
+
+pub neither : (a b : Bool) → (a || b) ≡ false → (a ≡ false) × (b ≡ false)
+neither a b e = or-eq-false-eq-eq-false-and-eq-false a b .0 e

@@ -1,0 +1,4 @@
+pub mod Guards
+pub mod Below
+pub mod ReadBack
+pub mod Same

@@ -1,0 +1,28 @@
+-- An answer as document 01 has it on paper: a refusal number, 0 if there is none, and the values beside it.
+-- Document 01: "For an answer that is an enum, a definition provides this paper's number and values for each of the enum's cases."
+-- Assumes nothing.
+use Prim.Native.Nat.{ℕ}
+use mathlib.Core.Bool.{Bool, true, false}
+use mathlib.Core.List.{List, []}
+
+pub record Answer : Type 0 where
+  pub number : ℕ
+  pub values : List ℕ
+
+-- "An accepted call's number and place are 0."
+abbrev pub given : List ℕ → Answer
+given vs = record { number = 0; values = vs }
+
+-- a refusal has its number and no values
+abbrev pub refusal : ℕ → Answer
+refusal n = record { number = n; values = [] }
+
+-- the refusal n where the fault is there, else what comes after it: a column of these reads like the table of refusals
+abbrev pub refuse : Bool → ℕ → Answer → Answer
+refuse true n rest = refusal n
+refuse false n rest = rest
+
+-- a yes or no as a value: 1 or 0
+abbrev pub bit : Bool → ℕ
+bit true = 1
+bit false = 0
