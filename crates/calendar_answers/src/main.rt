@@ -1,0 +1,197 @@
+// Answers queries on the calendar, a line each, so that tests can hold what it answers to an independent program.
+// A query is three numbers w, a and b, each of ten decimal digits and one byte more; a piece that is shorter ends the run.
+// A line has the three numbers and then, as NAME=number,values, the answer of each call: on winter or year w, on day a, on the
+// date of month a and day b, and on day a's part of a book of b numbers. What is written is compared and not proved.
+ghost use mathlib.Core.Path.{_≡_};
+ghost use Prim.Native.Nat.{ℕ, _%_, _<_};
+ghost use lib.ListN.{length, getD};
+ghost use Rattle.calendar_answers.specs.Digits.{spelled};
+use calendar::Date;
+use calendar::Days;
+use calendar::Fact;
+use calendar::Number;
+use calendar::Sunday;
+use libc::STDIN_FILENO;
+use libc::STDOUT_FILENO;
+
+
+
+// The number that decimal digits spell, kept below 2^32. The last four bits of a digit's byte are its value.
+fn number(digits: &[u8]) -> u32
+    ensures { λ r. ⌜ r ≡ spelled (now (digits .entry)) 0 ⌝ }
+{
+    let mut value: u64 = 0;
+    let mut i: usize = 0;
+    while i < digits.len() {
+        value = (value * 10 + low(digits[i])) % 4294967296;
+        i += 1;
+    }
+    value as u32
+}
+
+// The last four bits of a byte.
+fn low(byte: u8) -> u64
+    ensures { λ r. ⌜ r ≡ byte % 16 ⌝ }
+{
+    (byte % 16) as u64
+}
+
+fn main() {
+    let mut query = [0u8; 33];
+    let book = counted_book();
+    for _ in 0u32..1000000 {
+        if io::read_full(STDIN_FILENO, &mut query) < 33 {
+            return;
+        }
+        answer(&book, number(&query[0..10]), number(&query[11..21]), number(&query[22..32]));
+    }
+}
+
+// The longest book, 24 hours of 152 days, with each index at its place, so that a reading tells where it stood.
+fn counted_book() -> [u32; 3648]
+    ensures { λ r. ⌜ (3648 ≡ length r) × ((k : ℕ) → k < 3648 → getD r k 0 ≡ k) ⌝ }
+{
+    let mut book = [0u32; 3648];
+    let mut i: u32 = 0;
+    while i < 3648 {
+        book[i as usize] = i;
+        i += 1;
+    }
+    book
+}
+
+// The line of one query.
+fn answer(book: &[u32], w: u32, a: u32, b: u32) {
+    put_number(w);
+    put_value(a);
+    put_value(b);
+    put(b" days=");
+    put_days(calendar::winter_days(w));
+    put(b" easter=");
+    put_sunday(calendar::easter_sunday(w));
+    put(b" weekday=");
+    put_counted(calendar::weekday_of(w, a));
+    put(b" weekend=");
+    put_fact(calendar::weekend_day(w, a));
+    put(b" excluded=");
+    put_fact(calendar::excluded_day(w, a));
+    put(b" date=");
+    put_date(calendar::date_of(w, a));
+    put(b" book_day=");
+    put_counted(calendar::book_day_of(w, a, b));
+    put(b" readings=");
+    put_part(calendar::day_readings(w, lent(book, b), a));
+    put(b" tests=");
+    put_tests(w, a);
+    put(b"\n");
+}
+
+// The first n numbers of the book, or all of them where it has fewer.
+fn lent(book: &[u32], n: u32) -> &[u32] {
+    let end = n as usize;
+    if end < book.len() {
+        return &book[0..end];
+    }
+    book
+}
+
+fn put(text: &[u8]) {
+    io::write_all(STDOUT_FILENO, text);
+}
+
+fn put_number(n: u32) {
+    io::print_decimal(STDOUT_FILENO, n as u64);
+}
+
+fn put_value(n: u32) {
+    put(b",");
+    put_number(n);
+}
+
+fn put_days(days: Days) {
+    match days {
+        Days::Are(n) => {
+            put(b"0");
+            put_value(n);
+        }
+        Days::NoWinter => put(b"1"),
+    }
+}
+
+fn put_sunday(sunday: Sunday) {
+    match sunday {
+        Sunday::On(month, day) => {
+            put(b"0");
+            put_value(month);
+            put_value(day);
+        }
+        Sunday::NoYear => put(b"1"),
+    }
+}
+
+fn put_counted(number: Number) {
+    match number {
+        Number::Is(n) => {
+            put(b"0");
+            put_value(n);
+        }
+        Number::NoWinter => put(b"1"),
+        Number::NoDay => put(b"10"),
+    }
+}
+
+fn put_fact(fact: Fact) {
+    match fact {
+        Fact::Yes => put(b"0,1"),
+        Fact::No => put(b"0,0"),
+        Fact::NoWinter => put(b"1"),
+        Fact::NoDay => put(b"10"),
+    }
+}
+
+fn put_date(date: Date) {
+    match date {
+        Date::On(month, day) => {
+            put(b"0");
+            put_value(month);
+            put_value(day);
+        }
+        Date::NoWinter => put(b"1"),
+        Date::NoDay => put(b"10"),
+    }
+}
+
+// The length of a day's part, with its first and last reading.
+fn put_part(part: &[u32]) {
+    let n = part.len();
+    if n == 24 {
+        put(b"24");
+        put_value(part[0]);
+        put_value(part[23]);
+        return;
+    }
+    io::print_decimal(STDOUT_FILENO, n as u64);
+}
+
+// The tests for the crates above, where the day is a book day.
+fn put_tests(w: u32, a: u32) {
+    match calendar::date_of(w, a) {
+        Date::On(_, _) => {
+            put_bit(calendar::in_period(w, a));
+            put(b",");
+            put_bit(calendar::is_weekend(w, a));
+            put(b",");
+            put_bit(calendar::is_excluded(w, a));
+        }
+        Date::NoWinter => put(b"-"),
+        Date::NoDay => put(b"-"),
+    }
+}
+
+fn put_bit(holds: bool) {
+    if holds {
+        put(b"1");
+        return;
+    }
+    put(b"0");
+}
