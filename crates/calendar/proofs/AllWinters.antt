@@ -1,23 +1,16 @@
 -- Theorems over all 89 winters, each by one test that antt computes: Easter is a Sunday by the book's weekdays, the years join up,
 -- and the date of a book day leads back to it. That a book day leads back to its date holds for every number, by recursion over the months.
 -- Assumes nothing.
-use Prim.Native.Nat.{ℕ, zero, suc, _+_, _-_, _*_, _/_, _%_, _≤_, _<_}
-use mathlib.Core.Bool.{Bool, true, false, cond, _&&_, _||_}
-use mathlib.Core.List.{List, [], _∷_}
-use mathlib.Core.Path.{_≡_, refl, sym, ap, _∙_}
+use Prim.Native.Nat.{ℕ, _+_, _-_, _≤_}
+use mathlib.Core.Bool.{Bool, false, cond}
+use mathlib.Core.Path.{_≡_}
 use native.Mathlib.Omega.{arith}
-use lib.Dec.{T, ltb, leb, eqb, eqb→eq}
-use lib.ListN.{getD}
-use borrow.Author.Tests.{eqb-true, lt-ltb, le-ltb}
-use Rattle.laws.proofs.Below.{allBelow, below, from}
-use Rattle.laws.specs.Answer.{Answer, given, refusal, refuse}
-use Rattle.calendar.specs.Answers.{dateOf, bookDayOf}
-use Rattle.calendar.specs.Dates.{monthLengths, november, monthAfter, dateFrom, dayInMonth, bookDayFrom}
+use lib.Dec.{T, eqb, eqb→eq}
+use Rattle.laws.proofs.Below.{allBelow, from}
 use Rattle.calendar.specs.Easter.{easterT, easterMonth, easterInBook}
 use Rattle.calendar.specs.Weekdays.{firstWeekday, weekday}
 use Rattle.calendar.specs.Winters.{noWinter, leap, days}
-use Rattle.calendar.proofs.Bounds.{t-range, days-range}
-use Rattle.calendar.proofs.DateLaws.{in-month}
+use Rattle.calendar.proofs.Bounds.{t-range}
 use Rattle.calendar.proofs.Promise.{winter-range}
 
 -- a test of winters that computes to true at each of the 89 holds of every winter

@@ -1,7 +1,7 @@
 -- Laws of the day's part: what stands where a book has it, and where it has none.
 -- Assumes nothing.
-use Prim.Native.Nat.{ℕ, _+_, _*_, _≤_, _<_}
-use mathlib.Core.Bool.{Bool, true, false, not, _||_}
+use Prim.Native.Nat.{ℕ, _+_, _*_, _-_, _<_}
+use mathlib.Core.Bool.{true, false, not, _||_}
 use mathlib.Core.List.{List, []}
 use mathlib.Core.Path.{_≡_}
 use native.Mathlib.Omega.{arith}
@@ -33,9 +33,13 @@ pub part-none : (y : ℕ) (book : List ℕ) (d : ℕ) → noPart y (length book)
 unfolding dayReadings
 part-none y book d e = rw e
 
-pub part-given : (y : ℕ) (book : List ℕ) (d : ℕ) → noPart y (length book) d ≡ false → take 24 (drop (24 * d) book) ≡ dayReadings y book d
+-- the numbers from start to end, if those are the day's
+pub part-given : (y : ℕ) (book : List ℕ) (d start end : ℕ) → noPart y (length book) d ≡ false → start ≡ 24 * d → end ≡ start + 24
+    → take (end - start) (drop start book) ≡ dayReadings y book d
 unfolding dayReadings
-part-given y book d e = rw e
+part-given y book d start end e s f =
+    let long : end - start ≡ 24 = omega arith in
+    rw (e, long, s)
 
 pub start-none : (y n d : ℕ) → noPart y n d ≡ true → partStart y n d ≡ 0
 unfolding partStart

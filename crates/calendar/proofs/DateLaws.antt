@@ -1,20 +1,19 @@
 -- Laws of the walk over the months: what it gives where it stops, and that a month passed changes nothing.
 -- Assumes nothing.
-use Prim.Native.Nat.{ℕ, zero, suc, _+_, _-_, _*_, _≤_, _<_}
+use Prim.Native.Nat.{ℕ, zero, suc, _+_, _-_, _≤_, _<_}
 use mathlib.Core.Bool.{Bool, true, false, cond, _&&_, _||_}
-use mathlib.Core.List.{List, [], _∷_}
-use mathlib.Core.Path.{_≡_, refl, sym, _∙_}
+use mathlib.Core.List.{[], _∷_}
+use mathlib.Core.Path.{_≡_, refl}
 use native.Mathlib.Numerals.{add-one}
 use native.Mathlib.Omega.{arith}
 use lib.Dec.{eqb, ltb}
-use lib.ListN.{length, getD, drop}
+use lib.ListN.{getD, drop}
 use lib.Seq.{drop-cons}
 use borrow.Author.Tests.{eqb-true, eq-eqb, ne-eqb, lt-ltb, le-ltb, ltb-false}
 use Rattle.laws.proofs.Guards.{both, neither}
-use Rattle.laws.specs.Answer.{Answer, given, refusal, refuse}
-use Rattle.calendar.specs.Answers.{dateOf, bookDayOf}
-use Rattle.calendar.specs.Dates.{commonLengths, monthLengths, november, monthAfter, dateFrom, dayInMonth, bookDayFrom}
-use Rattle.calendar.specs.Winters.{noWinter, leap}
+use Rattle.laws.specs.Answer.{given, refusal}
+use Rattle.calendar.specs.Dates.{commonLengths, monthLengths, monthAfter, dateFrom, dayInMonth, bookDayFrom}
+use Rattle.calendar.specs.Winters.{leap}
 
 -- the length of month i: the table's, but for a February with a leap day
 pub length-leap : (y i : ℕ) → (eqb i 3 && leap (y + 1)) ≡ true → 29 ≡ getD (monthLengths y) i 0
@@ -45,55 +44,39 @@ length-small y (suc (suc (suc zero))) = february (leap (y + 1))
 length-small y (suc (suc (suc (suc zero)))) = omega arith
 length-small y (suc (suc (suc (suc (suc i))))) = omega arith
 
--- at month i of winter y, whose length is n
+-- at month i of winter y, whose length is n: what the walk gives there, and that passing the month changes nothing
 module _ (y i n : ℕ) (h : i < 5) (e : n ≡ getD (monthLengths y) i 0) where
   now-first : drop i (monthLengths y) ≡ n ∷ drop (i + 1) (monthLengths y)
   unfolding monthLengths
   now-first = rw (add-one i, e) (drop-cons (monthLengths y) i 0 h)
 
-  pub date-here : (month left : ℕ) → left < n → dateFrom (drop i (monthLengths y)) month left ≡ given (month ∷ (left + 1) ∷ [])
+  pub date-here : (month left : ℕ) → left < n → given (month ∷ (left + 1) ∷ []) ≡ dateFrom (drop i (monthLengths y)) month left
   unfolding dateFrom
   date-here month left l = rw (now-first, lt-ltb left n l)
 
-  pub date-next : (month left : ℕ) → n ≤ left → dateFrom (drop i (monthLengths y)) month left ≡ dateFrom (drop (i + 1) (monthLengths y)) (monthAfter month) (left - n)
+  pub date-next : (month left : ℕ) → n ≤ left → dateFrom (drop (i + 1) (monthLengths y)) (monthAfter month) (left - n) ≡ dateFrom (drop i (monthLengths y)) month left
   unfolding dateFrom
   date-next month left l = rw (now-first, le-ltb left n l)
 
-  pub book-day-here : (now first month day : ℕ) → now ≡ month → bookDayFrom (drop i (monthLengths y)) now first month day ≡ dayInMonth first n day
+  pub book-day-here : (now first month day : ℕ) → now ≡ month → dayInMonth first n day ≡ bookDayFrom (drop i (monthLengths y)) now first month day
   unfolding bookDayFrom
   book-day-here now first month day q = rw (now-first, eq-eqb now month q)
 
   pub book-day-next : (now first month day : ℕ) → (now ≡ month → ⊥)
-      → bookDayFrom (drop i (monthLengths y)) now first month day ≡ bookDayFrom (drop (i + 1) (monthLengths y)) (monthAfter now) (first + n) month day
+      → bookDayFrom (drop (i + 1) (monthLengths y)) (monthAfter now) (first + n) month day ≡ bookDayFrom (drop i (monthLengths y)) now first month day
   unfolding bookDayFrom
   book-day-next now first month day q = rw (now-first, ne-eqb now month q)
 
 -- after March nothing is left
-pub date-end : (y i month left : ℕ) → i ≡ 5 → dateFrom (drop i (monthLengths y)) month left ≡ refusal 10
+pub date-end : (y i month left : ℕ) → i ≡ 5 → refusal 10 ≡ dateFrom (drop i (monthLengths y)) month left
 unfolding monthLengths dateFrom
 date-end y i month left e = rw e
 
-pub book-day-end : (y i now first month day : ℕ) → i ≡ 5 → bookDayFrom (drop i (monthLengths y)) now first month day ≡ refusal 10
+pub book-day-end : (y i now first month day : ℕ) → i ≡ 5 → refusal 10 ≡ bookDayFrom (drop i (monthLengths y)) now first month day
 unfolding monthLengths bookDayFrom
 book-day-end y i now first month day e = rw e
 
--- the answers, by the walk in a winter
-pub date-no-winter : (y d : ℕ) → noWinter y ≡ true → refusal 1 ≡ dateOf y d
-unfolding dateOf
-date-no-winter y d w = rw w
-
-pub date-is : (y d : ℕ) (a : Answer) → noWinter y ≡ false → dateFrom (monthLengths y) november d ≡ a → a ≡ dateOf y d
-unfolding dateOf
-date-is y d a w e = rw (w, e)
-
-pub book-day-no-winter : (y month day : ℕ) → noWinter y ≡ true → refusal 1 ≡ bookDayOf y month day
-unfolding bookDayOf
-book-day-no-winter y month day w = rw w
-
-pub book-day-is : (y month day : ℕ) (a : Answer) → noWinter y ≡ false → bookDayFrom (monthLengths y) november 0 month day ≡ a → a ≡ bookDayOf y month day
-unfolding bookDayOf
-book-day-is y month day a w e = rw (w, e)
-
+-- a day that the month has
 pub in-month : (day n : ℕ) → (ltb day 1 || ltb n day) ≡ false → (1 ≤ day) × (day ≤ n)
 in-month day n e =
     let p = neither (ltb day 1) (ltb n day) e in

@@ -4,7 +4,7 @@
 use Prim.Native.Nat.{ℕ, suc, _+_, _-_, _≤_, _<_}
 use mathlib.Core.Bool.{Bool, true, false, cond, _&&_, _||_}
 use mathlib.Core.List.{List, [], _∷_}
-use mathlib.Core.Path.{_≡_, refl, sym, ap, _∙_}
+use mathlib.Core.Path.{_≡_, refl, ap}
 use native.Mathlib.Omega.{arith}
 use lib.Dec.{T, ltb, leb, eqb}
 use lib.ListN.{getD}
@@ -35,7 +35,7 @@ leadsBack : ℕ → ℕ → Bool
 leadsBack y d = leb (days y) d || same (bookDayOf y (monthOf y d) (dayOf y d)) (given (d ∷ []))
 
 every-day : (y d : ℕ) → noWinter y ≡ false → d < 152 → T (dated y d && leadsBack y d)
-unfolding dated leadsBack noWinter days leap dateOf bookDayOf monthLengths dateFrom dayInMonth bookDayFrom
+unfolding dated leadsBack refuse noWinter days leap dateOf bookDayOf monthLengths dateFrom dayInMonth bookDayFrom
 every-day y d w h =
     below (λ d. dated y d && leadsBack y d) 152 (in-winters (λ y. allBelow 152 (λ d. dated y d && leadsBack y d)) tt y w) d h
 
@@ -67,7 +67,7 @@ first-value x d e = ap (λ (a : Answer). getD (a .values) 0 0) e
 
 module _ (n : ℕ) (lengths : List ℕ) (now first month day d : ℕ) where
   in-this : now ≡ month → (b : Bool) → (ltb day 1 || ltb n day) ≡ b → refuse b 10 (given ((first + day - 1) ∷ [])) ≡ given (d ∷ []) → FoundAt (n ∷ lengths) now first month day d
-  unfolding FoundAt dateFrom
+  unfolding FoundAt dateFrom refuse
   in-this m true q e = no-refusal 9 (d ∷ []) e
   in-this m false q e =
       let i = in-month day n q in
@@ -76,7 +76,7 @@ module _ (n : ℕ) (lengths : List ℕ) (now first month day d : ℕ) where
       (omega arith, rw (lt-ltb (d - first) n (omega arith), m, left))
 
   in-later : FoundAt lengths (monthAfter now) (first + n) month day d → FoundAt (n ∷ lengths) now first month day d
-  unfolding FoundAt dateFrom
+  unfolding FoundAt dateFrom refuse
   in-later p =
       let before = p .0 in
       let left : d - first - n ≡ d - (first + n) = omega arith in
@@ -99,7 +99,7 @@ found-at (n ∷ lengths) now first month day d e =
     in-one n lengths now first month day d (found-at lengths (monthAfter now) (first + n) month day d) (eqb now month) refl e
 
 pub day-leads-back : (y month day d : ℕ) → bookDayOf y month day ≡ given (d ∷ []) → dateOf y d ≡ given (month ∷ day ∷ [])
-unfolding bookDayOf dateOf FoundAt
+unfolding bookDayOf dateOf refuse FoundAt
 day-leads-back y month day d e = by (noWinter y) e
   where
     by : (b : Bool) → refuse b 1 (bookDayFrom (monthLengths y) november 0 month day) ≡ given (d ∷ []) → refuse b 1 (dateFrom (monthLengths y) november d) ≡ given (month ∷ day ∷ [])

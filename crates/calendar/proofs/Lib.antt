@@ -1,4 +1,5 @@
 pub mod Bounds
+pub mod AnswerLaws
 pub mod ExcludedLaws
 pub mod DateLaws
 pub mod BookLaws

@@ -1,16 +1,16 @@
 -- The calendar's promise: what the crates above may count on, so that they open none of its definitions.
 -- Assumes nothing.
-use Prim.Native.Nat.{ℕ, _+_, _*_, _%_, _≤_, _<_}
-use mathlib.Core.Bool.{Bool, true, false, not, cond, _&&_, _||_, or-false}
-use mathlib.Core.List.{List, [], _∷_, map}
+use Prim.Native.Nat.{ℕ, _+_, _%_, _≤_, _<_}
+use mathlib.Core.Bool.{Bool, true, false, not, cond, _&&_, _||_}
+use mathlib.Core.List.{[], _∷_, map}
 use mathlib.Core.Logic.{_⊎_, inl, inr, _↔_}
-use mathlib.Core.Path.{_≡_, refl, sym, ap, _∙_}
+use mathlib.Core.Path.{_≡_, refl, _∙_}
 use native.Mathlib.Omega.{arith}
 use lib.Dec.{T, leb, ltb, eqb, leb→le}
 use borrow.Author.Tests.{ltb-false, leb-true, leb-false, ltb-true, le-leb, lt-leb, lt-ltb, ne-eqb}
-use Rattle.laws.proofs.Below.{allBelow, below, howMany}
+use Rattle.laws.proofs.Below.{below, howMany}
 use Rattle.laws.proofs.Guards.{both, neither}
-use Rattle.laws.specs.Answer.{Answer, given}
+use Rattle.laws.specs.Answer.{given, refuse}
 use Rattle.calendar.specs.Answers.{dateOf}
 use Rattle.calendar.specs.Dates.{monthLengths, dateFrom}
 use Rattle.calendar.specs.Easter.{easterInBook}
@@ -49,13 +49,13 @@ period-day y d = (
 -- dates: day 30 is 1 December, and the fixed days are 24, 25, 26, 31 December, 1 and 2 January
 
 pub december-first : (y : ℕ) → noWinter y ≡ false → dateOf y 30 ≡ given (12 ∷ 1 ∷ [])
-unfolding dateOf dateFrom monthLengths
+unfolding dateOf refuse dateFrom monthLengths
 december-first y w = rw w
 
 pub fixed-dates : (y : ℕ) → noWinter y ≡ false
     → map (dateOf y) fixedDays
     ≡ given (12 ∷ 24 ∷ []) ∷ given (12 ∷ 25 ∷ []) ∷ given (12 ∷ 26 ∷ []) ∷ given (12 ∷ 31 ∷ []) ∷ given (1 ∷ 1 ∷ []) ∷ given (1 ∷ 2 ∷ []) ∷ []
-unfolding dateOf dateFrom monthLengths
+unfolding dateOf refuse dateFrom monthLengths
 fixed-dates y w = rw w
 
 -- weekdays go round by seven

@@ -2,7 +2,6 @@
 -- "The calendar's own public calls give 1 for a winter outside 2010..2098 (Easter: a year outside 2011..2099), then 10 for a day outside the book."
 -- Assumes nothing.
 use Prim.Native.Nat.{ℕ}
-use mathlib.Core.Bool.{Bool, true, false}
 use mathlib.Core.List.{List, [], _∷_}
 use Rattle.laws.specs.Answer.{Answer, given, refusal, refuse, bit}
 use Rattle.calendar.specs.Dates.{monthLengths, november, dateFrom, bookDayFrom}

@@ -2,7 +2,7 @@
 -- "Its book runs from 1 November Y (day 0) to 31 March Y+1."
 -- Assumes nothing.
 use Prim.Native.Nat.{ℕ, _+_, _-_, _%_}
-use mathlib.Core.Bool.{Bool, cond, _||_}
+use mathlib.Core.Bool.{cond, _||_}
 use mathlib.Core.List.{List, [], _∷_}
 use lib.Dec.{ltb, eqb}
 use Rattle.laws.specs.Answer.{Answer, given, refusal, refuse}

@@ -1,7 +1,7 @@
 -- Winters and the days of their books.
 -- Assumes nothing.
 use Prim.Native.Nat.{ℕ, _+_, _%_}
-use mathlib.Core.Bool.{Bool, true, false, not, cond, _&&_, _||_}
+use mathlib.Core.Bool.{Bool, not, cond, _&&_, _||_}
 use lib.Dec.{leb, ltb, eqb}
 
 -- "1: Y outside 2010..2098", where "a winter is named by the year Y of its December"

@@ -1,6 +1,5 @@
 // Easter Sunday.
 ghost use mathlib.Core.Path.{_≡_};
-ghost use Prim.Native.Nat.{_≤_};
 ghost use Rattle.calendar.specs.Easter.{noEasterYear, easterT, easterInBook};
 ghost use Rattle.calendar.specs.Answers.{sundayPaper, easterSunday};
 use crate::answers::Sunday;

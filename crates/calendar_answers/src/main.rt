@@ -14,8 +14,6 @@ use calendar::Sunday;
 use libc::STDIN_FILENO;
 use libc::STDOUT_FILENO;
 
-
-
 // The number that decimal digits spell, kept below 2^32. The last four bits of a digit's byte are its value.
 fn number(digits: &[u8]) -> u32
     ensures { λ r. ⌜ r ≡ spelled (now (digits .entry)) 0 ⌝ }
@@ -43,7 +41,12 @@ fn main() {
         if io::read_full(STDIN_FILENO, &mut query) < 33 {
             return;
         }
-        answer(&book, number(&query[0..10]), number(&query[11..21]), number(&query[22..32]));
+        answer(
+            &book,
+            number(&query[0..10]),
+            number(&query[11..21]),
+            number(&query[22..32]),
+        );
     }
 }
 

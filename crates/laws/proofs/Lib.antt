@@ -1,4 +1,5 @@
-pub mod Guards
 pub mod Below
+pub mod Guards
 pub mod ReadBack
+pub mod Refusals
 pub mod Same

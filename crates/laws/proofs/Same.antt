@@ -3,7 +3,7 @@
 use Prim.Native.Nat.{ℕ}
 use mathlib.Core.Bool.{Bool, true, false, _&&_}
 use mathlib.Core.List.{List, [], _∷_}
-use mathlib.Core.Path.{_≡_, refl, ap}
+use mathlib.Core.Path.{_≡_, refl}
 use lib.Dec.{T, eqb, eqb→eq}
 use Rattle.laws.specs.Answer.{Answer}
 use Rattle.laws.proofs.Below.{and-left, and-right}

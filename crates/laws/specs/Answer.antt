@@ -18,7 +18,7 @@ abbrev pub refusal : ℕ → Answer
 refusal n = record { number = n; values = [] }
 
 -- the refusal n where the fault is there, else what comes after it: a column of these reads like the table of refusals
-abbrev pub refuse : Bool → ℕ → Answer → Answer
+unfoldable pub refuse : Bool → ℕ → Answer → Answer
 refuse true n rest = refusal n
 refuse false n rest = rest
 

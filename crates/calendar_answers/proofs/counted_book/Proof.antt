@@ -1,6 +1,9 @@
-use mathlib.Core.Path.{_≡_, _∙_}
-use mathlib.Core.List.{List}
+-- `counted_book` puts each index at its place.
+-- The invariant: every index below i holds itself.
+-- Assumes nothing.
 use Prim.Native.Nat.{ℕ, _+_, _≤_, _<_, _-_}
+use mathlib.Core.List.{List}
+use mathlib.Core.Path.{_≡_, _∙_}
 use native.Mathlib.Omega.{arith}
 use lib.ListN.{length, getD, set}
 use lib.Seq.{getD-set-same, getD-set-other}
@@ -8,8 +11,6 @@ use borrow.Author.Count.{below-more}
 use borrow.Author.Needs.{needs}
 use Rattle.calendar_answers.proofs.counted_book.Statement.{statement}
 use Rattle.calendar_answers.proofs.counted_book.Tie as tie
-use Rattle.calendar_answers.proofs.counted_book.Reads as reads
-use Rattle.calendar_answers.proofs.counted_book.Lts as lts
 
 -- one index more that holds itself
 counted-on : (book : List ℕ) (i : ℕ) → i < length book → ((k : ℕ) → k < i → getD book k 0 ≡ k) → (k : ℕ) → k < i + 1 → getD (set book i i) k 0 ≡ k
@@ -24,31 +25,24 @@ Inv-loop book₀ i₀ book i = (i ≤ 3648) × (length book ≡ 3648) × ((k : �
 abbrev μ-loop : tie.MeasureT-loop
 μ-loop book₀ i₀ book i = 3648 - i
 
--- src/main.rt:56:5
 loop-holds : tie.Need-loop-holds Inv-loop μ-loop
 loop-holds c = (search needs, search needs, λ k (h : k < 0). absurd (omega arith))
 
--- src/main.rt:57:14
 cast-book : tie.Need-cast-book Inv-loop μ-loop
 cast-book c = search needs
 
--- src/main.rt:57:9
 mul-book : tie.Need-mul-book Inv-loop μ-loop
 mul-book c = search needs
 
--- src/main.rt:57:9
 array-write-book : tie.Need-array-write-book Inv-loop μ-loop
 array-write-book c = search needs
 
--- src/main.rt:58:9
 add-i : tie.Need-add-i Inv-loop μ-loop
 add-i c = search needs
 
--- src/main.rt:56:5
 loop-less : tie.Need-loop-less Inv-loop μ-loop
 loop-less c = search needs
 
--- src/main.rt:56:5
 loop-again : tie.Need-loop-again Inv-loop μ-loop
 loop-again c =
     let at = c .before .loop in (
@@ -57,7 +51,6 @@ loop-again c =
       counted-on (at .book) (at .i) (omega arith) (at .inv .2),
     )
 
--- src/main.rt:51:1
 returns : tie.Need-returns Inv-loop μ-loop
 returns c = (omega arith, λ k (h : k < 3648). c .before .loop .inv .2 k (omega arith))
 

@@ -1,15 +1,11 @@
+-- `main` is safe and ends: each turn uses up one of a million queries, and the query keeps its 33 bytes.
+-- Assumes nothing.
 use Prim.Native.Nat.{_≤_, _-_}
 use mathlib.Core.Path.{_≡_}
 use lib.ListN.{length}
 use borrow.Author.Needs.{needs}
 use Rattle.calendar_answers.proofs.main.Statement.{statement}
 use Rattle.calendar_answers.proofs.main.Tie as tie
-use Rattle.calendar_answers.proofs.main.Reads as reads
-use Rattle.calendar_answers.proofs.main.Lts as lts
-use Rattle.calendar_answers.proofs.answer.Reads as answer-reads
-use Rattle.calendar_answers.proofs.counted_book.Reads as counted-book-reads
-use Rattle.calendar_answers.proofs.number.Reads as number-reads
-use Rattle.io.proofs.read_full.Reads as read-full-reads
 
 abbrev Inv-loop : tie.InvT-loop
 Inv-loop query₀ book counter₀ query counter = (counter ≤ 1000000) × (length query ≡ 33)
@@ -17,95 +13,72 @@ Inv-loop query₀ book counter₀ query counter = (counter ≤ 1000000) × (leng
 abbrev μ-loop : tie.MeasureT-loop
 μ-loop query₀ book counter₀ query counter = 1000000 - counter
 
--- src/main.rt:41:16
 counted-book-requires : tie.Need-counted-book-requires Inv-loop μ-loop
 counted-book-requires c κs = search needs
 
--- src/main.rt:42:5
 loop-holds : tie.Need-loop-holds Inv-loop μ-loop
 loop-holds c = search needs
 
--- src/main.rt:43:40
 slice-aggregate-read-full : tie.Need-slice-aggregate-read-full Inv-loop μ-loop
 slice-aggregate-read-full c = search needs
 
--- src/main.rt:43:12
 read-full-requires : tie.Need-read-full-requires Inv-loop μ-loop
 read-full-requires c κs = search needs
 
--- src/main.rt:44:13
 returns : tie.Need-returns Inv-loop μ-loop
 returns c = search needs
 
--- src/main.rt:46:16
 slice-aggregate-answer : tie.Need-slice-aggregate-answer Inv-loop μ-loop
 slice-aggregate-answer c = search needs
 
--- src/main.rt:46:30
 sub-number : tie.Need-sub-number Inv-loop μ-loop
 sub-number c = search needs
 
--- src/main.rt:46:30
 part-number-start : tie.Need-part-number-start Inv-loop μ-loop
 part-number-start c = search needs
 
--- src/main.rt:46:30
 part-number-end : tie.Need-part-number-end Inv-loop μ-loop
 part-number-end c = search needs
 
--- src/main.rt:46:23
 number-requires : tie.Need-number-requires Inv-loop μ-loop
 number-requires c κs = search needs
 
--- src/main.rt:46:53
 sub-number-2 : tie.Need-sub-number-2 Inv-loop μ-loop
 sub-number-2 c = search needs
 
--- src/main.rt:46:53
 part-number-start-2 : tie.Need-part-number-start-2 Inv-loop μ-loop
 part-number-start-2 c = search needs
 
--- src/main.rt:46:53
 part-number-end-2 : tie.Need-part-number-end-2 Inv-loop μ-loop
 part-number-end-2 c = search needs
 
--- src/main.rt:46:46
 number-requires-2 : tie.Need-number-requires-2 Inv-loop μ-loop
 number-requires-2 c κs = search needs
 
--- src/main.rt:46:77
 sub-number-3 : tie.Need-sub-number-3 Inv-loop μ-loop
 sub-number-3 c = search needs
 
--- src/main.rt:46:77
 part-number-start-3 : tie.Need-part-number-start-3 Inv-loop μ-loop
 part-number-start-3 c = search needs
 
--- src/main.rt:46:77
 part-number-end-3 : tie.Need-part-number-end-3 Inv-loop μ-loop
 part-number-end-3 c = search needs
 
--- src/main.rt:46:70
 number-requires-3 : tie.Need-number-requires-3 Inv-loop μ-loop
 number-requires-3 c κs = search needs
 
--- src/main.rt:46:9
 answer-requires : tie.Need-answer-requires Inv-loop μ-loop
 answer-requires c κs = search needs
 
--- src/main.rt:42:9
 add-counter : tie.Need-add-counter Inv-loop μ-loop
 add-counter c = search needs
 
--- src/main.rt:42:5
 loop-less : tie.Need-loop-less Inv-loop μ-loop
 loop-less c = search needs
 
--- src/main.rt:42:5
 loop-again : tie.Need-loop-again Inv-loop μ-loop
 loop-again c = search needs
 
--- src/main.rt:39:1
 returns-2 : tie.Need-returns-2 Inv-loop μ-loop
 returns-2 c = search needs
 

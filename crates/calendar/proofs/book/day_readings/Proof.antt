@@ -1,12 +1,11 @@
 -- `day_readings` hands back the empty part at the book's start, or the 24 numbers at 24 times the day, which lie in the book.
 -- Assumes nothing.
 use Prim.Native.Nat.{_+_, _*_, _-_}
-use mathlib.Core.Path.{_≡_, refl}
+use mathlib.Core.Path.{refl}
 use native.Mathlib.Omega.{arith}
 use borrow.Author.Needs.{needs}
 use Rattle.laws.proofs.Guards.{found}
 use Rattle.calendar.proofs.BookLaws.{has-part, part-none, part-given, start-none, start-given}
-use Rattle.calendar.proofs.Bounds.{days-range}
 use Rattle.calendar.proofs.book.day_readings.Statement.{statement}
 use Rattle.calendar.proofs.book.day_readings.Tie as tie
 
@@ -50,9 +49,8 @@ part-result-end-2 c =
 returns-2 : tie.Need-returns-2
 returns-2 c =
     let e = found (c .before .before .no-part .ensures) (c .before .if1 .left) in
-    let day = c .before .before .before .before .args .day in
-    let long : 24 * day + 24 - 24 * day ≡ 24 = omega arith in
-    (rw long (part-given _ _ _ e), (refl, omega (arith, start-given _ _ _ e)))
+    let start = 24 * c .before .before .before .before .args .day in
+    (part-given _ _ _ start (start + 24) e refl refl, (refl, omega (arith, start-given _ _ _ e)))
 
 pub day-readings-spec : {M : Type 1} → statement M
 day-readings-spec =

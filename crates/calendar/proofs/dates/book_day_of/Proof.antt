@@ -2,13 +2,15 @@
 -- The invariant: the book day looked for from month i on, which starts at `first`, is the book day of the date.
 -- Assumes nothing.
 use Prim.Native.Nat.{_≤_, _*_, _-_}
-use mathlib.Core.Path.{_≡_, sym, _∙_}
+use mathlib.Core.Path.{_≡_, _∙_}
 use native.Mathlib.Omega.{arith}
 use lib.ListN.{drop}
 use borrow.Author.Needs.{needs}
 use Rattle.laws.proofs.Guards.{found}
+use Rattle.laws.proofs.Refusals.{refused, kept}
+use Rattle.calendar.specs.Answers.{bookDayOf}
 use Rattle.calendar.specs.Dates.{monthLengths, november, bookDayFrom}
-use Rattle.calendar.proofs.DateLaws.{length-small, book-day-here, book-day-next, book-day-end, book-day-no-winter, book-day-is}
+use Rattle.calendar.proofs.DateLaws.{length-small, book-day-here, book-day-next, book-day-end}
 use Rattle.calendar.proofs.dates.book_day_of.Statement.{statement}
 use Rattle.calendar.proofs.dates.book_day_of.Tie as tie
 
@@ -23,7 +25,8 @@ no-winter-requires : tie.Need-no-winter-requires Inv-loop μ-loop
 no-winter-requires c κs = search needs
 
 returns : tie.Need-returns Inv-loop μ-loop
-returns c = book-day-no-winter _ _ _ (found (c .before .no-winter .ensures) (c .if1 .taken))
+unfolding bookDayOf
+returns c = refused _ _ (found (c .before .no-winter .ensures) (c .if1 .taken))
 
 loop-holds : tie.Need-loop-holds Inv-loop μ-loop
 loop-holds c = search needs
@@ -36,12 +39,13 @@ day-in-month-requires c κs =
     omega (arith, length-small (c .before .before .before .before .before .before .args .winter) (c .before .before .before .loop .i))
 
 returns-2 : tie.Need-returns-2 Inv-loop μ-loop
+unfolding bookDayOf
 returns-2 c =
     let at = c .before .before .before .before .loop in
-    book-day-is _ _ _ _ (found (c .before .before .before .before .before .before .no-winter .ensures) (c .before .before .before .before .before .if1 .left))
-    (sym (at .inv .2)
+    kept _ (found (c .before .before .before .before .before .before .no-winter .ensures) (c .before .before .before .before .before .if1 .left))
+    (c .day-in-month .ensures
     ∙ book-day-here _ (at .i) _ (c .before .before .before .loop-test .taken) (c .before .before .month-length .ensures) _ _ _ _ (c .before .if2 .taken)
-    ∙ sym (c .day-in-month .ensures))
+    ∙ at .inv .2)
 
 add-now : tie.Need-add-now Inv-loop μ-loop
 add-now c = search needs
@@ -60,13 +64,14 @@ loop-again c =
     let at = c .before .before .before .loop in (
       search needs,
       omega (arith, length-small (c .before .before .before .before .before .before .args .winter) (at .i)),
-      sym (book-day-next _ (at .i) _ (c .before .before .loop-test .taken) (c .before .month-length .ensures) _ _ _ _ (c .if2 .left)) ∙ at .inv .2,
+      book-day-next _ (at .i) _ (c .before .before .loop-test .taken) (c .before .month-length .ensures) _ _ _ _ (c .if2 .left) ∙ at .inv .2,
     )
 
 returns-3 : tie.Need-returns-3 Inv-loop μ-loop
+unfolding bookDayOf
 returns-3 c =
-    book-day-is _ _ _ _ (found (c .before .before .before .no-winter .ensures) (c .before .before .if1 .left))
-    (sym (c .before .loop .inv .2) ∙ book-day-end _ (c .before .loop .i) _ _ _ _ (omega arith))
+    kept _ (found (c .before .before .before .no-winter .ensures) (c .before .before .if1 .left))
+    (book-day-end _ (c .before .loop .i) _ _ _ _ (omega arith) ∙ c .before .loop .inv .2)
 
 pub book-day-of-spec : {M : Type 1} → statement M
 book-day-of-spec =

@@ -3,7 +3,7 @@
 use Prim.Native.Nat.{_+_}
 use native.Mathlib.Omega.{arith}
 use borrow.Author.Needs.{needs}
-use Rattle.calendar.specs.Easter.{easterInBook, easterT}
+use Rattle.calendar.specs.Easter.{easterInBook}
 use Rattle.calendar.proofs.Bounds.{days-range, t-range}
 use Rattle.calendar.proofs.easter.easter_in_book.Statement.{statement}
 use Rattle.calendar.proofs.easter.easter_in_book.Tie as tie

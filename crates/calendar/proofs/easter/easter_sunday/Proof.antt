@@ -2,6 +2,8 @@
 -- Assumes nothing.
 use native.Mathlib.Omega.{arith}
 use borrow.Author.Needs.{needs}
+use Rattle.laws.proofs.Guards.{found}
+use Rattle.laws.proofs.Refusals.{refused, kept}
 use Rattle.calendar.specs.Answers.{easterSunday}
 use Rattle.calendar.proofs.Bounds.{t-range}
 use Rattle.calendar.proofs.easter.easter_sunday.Statement.{statement}
@@ -12,11 +14,7 @@ no-easter-year-requires c κs = search needs
 
 returns : tie.Need-returns
 unfolding easterSunday
-returns c =
-    rw (
-      ← c .before .no-easter-year .ensures,
-      c .if1 .taken,
-    )
+returns c = refused _ _ (found (c .before .no-easter-year .ensures) (c .if1 .taken))
 
 easter-t-requires : tie.Need-easter-t-requires
 easter-t-requires c κs = search needs
@@ -29,12 +27,7 @@ add-t8 c = search needs
 
 returns-2 : tie.Need-returns-2
 unfolding easterSunday
-returns-2 c =
-    rw (
-      ← c .before .before .no-easter-year .ensures,
-      c .before .if1 .left,
-      ← c .easter-t .ensures,
-    )
+returns-2 c = kept _ (found (c .before .before .no-easter-year .ensures) (c .before .if1 .left)) (rw (c .easter-t .ensures))
 
 pub easter-sunday-spec : {M : Type 1} → statement M
 easter-sunday-spec =

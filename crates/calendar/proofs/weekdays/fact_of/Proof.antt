@@ -1,6 +1,8 @@
 -- `fact_of` answers 1 for no winter, then 10 for no book day, then yes or no.
 -- Assumes nothing.
 use borrow.Author.Needs.{needs}
+use Rattle.laws.proofs.Guards.{found}
+use Rattle.laws.proofs.Refusals.{refused, kept}
 use Rattle.calendar.specs.Answers.{ofDay}
 use Rattle.calendar.proofs.weekdays.fact_of.Statement.{statement}
 use Rattle.calendar.proofs.weekdays.fact_of.Tie as tie
@@ -10,11 +12,7 @@ no-winter-requires c κs = search needs
 
 returns : tie.Need-returns
 unfolding ofDay
-returns c =
-    rw (
-      ← c .before .no-winter .ensures,
-      c .if1 .taken,
-    )
+returns c = refused _ _ (found (c .before .no-winter .ensures) (c .if1 .taken))
 
 no-day-requires : tie.Need-no-day-requires
 no-day-requires c κs = search needs
@@ -22,34 +20,20 @@ no-day-requires c κs = search needs
 returns-2 : tie.Need-returns-2
 unfolding ofDay
 returns-2 c =
-    rw (
-      ← c .before .before .before .no-winter .ensures,
-      c .before .before .if1 .left,
-      ← c .before .no-day .ensures,
-      c .if2 .taken,
-    )
+    kept _ (found (c .before .before .before .no-winter .ensures) (c .before .before .if1 .left))
+    (refused _ _ (found (c .before .no-day .ensures) (c .if2 .taken)))
 
 returns-3 : tie.Need-returns-3
 unfolding ofDay
 returns-3 c =
-    rw (
-      ← c .before .before .before .before .no-winter .ensures,
-      c .before .before .before .if1 .left,
-      ← c .before .before .no-day .ensures,
-      c .before .if2 .left,
-      c .if3 .taken,
-    )
+    kept _ (found (c .before .before .before .before .no-winter .ensures) (c .before .before .before .if1 .left))
+    (kept _ (found (c .before .before .no-day .ensures) (c .before .if2 .left)) (rw (c .if3 .taken)))
 
 returns-4 : tie.Need-returns-4
 unfolding ofDay
 returns-4 c =
-    rw (
-      ← c .before .before .before .before .no-winter .ensures,
-      c .before .before .before .if1 .left,
-      ← c .before .before .no-day .ensures,
-      c .before .if2 .left,
-      c .if3 .left,
-    )
+    kept _ (found (c .before .before .before .before .no-winter .ensures) (c .before .before .before .if1 .left))
+    (kept _ (found (c .before .before .no-day .ensures) (c .before .if2 .left)) (rw (c .if3 .left)))
 
 pub fact-of-spec : {M : Type 1} → statement M
 fact-of-spec =

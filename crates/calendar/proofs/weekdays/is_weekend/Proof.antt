@@ -10,9 +10,7 @@ weekday-in-requires c κs = search needs
 
 returns : tie.Need-returns
 unfolding weekend
-returns c =
-    rw
-    (← c .weekday-in .ensures)
+returns c = rw (c .weekday-in .ensures)
 
 pub is-weekend-spec : {M : Type 1} → statement M
 is-weekend-spec = tie.close (tie.spec weekday-in-requires returns)

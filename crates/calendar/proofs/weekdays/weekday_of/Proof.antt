@@ -1,6 +1,8 @@
 -- `weekday_of` answers 1 for no winter, then 10 for no book day, else the weekday.
 -- Assumes nothing.
 use borrow.Author.Needs.{needs}
+use Rattle.laws.proofs.Guards.{found}
+use Rattle.laws.proofs.Refusals.{refused, kept}
 use Rattle.calendar.specs.Answers.{ofDay}
 use Rattle.calendar.proofs.weekdays.weekday_of.Statement.{statement}
 use Rattle.calendar.proofs.weekdays.weekday_of.Tie as tie
@@ -10,11 +12,7 @@ no-winter-requires c κs = search needs
 
 returns : tie.Need-returns
 unfolding ofDay
-returns c =
-    rw (
-      ← c .before .no-winter .ensures,
-      c .if1 .taken,
-    )
+returns c = refused _ _ (found (c .before .no-winter .ensures) (c .if1 .taken))
 
 no-day-requires : tie.Need-no-day-requires
 no-day-requires c κs = search needs
@@ -22,12 +20,8 @@ no-day-requires c κs = search needs
 returns-2 : tie.Need-returns-2
 unfolding ofDay
 returns-2 c =
-    rw (
-      ← c .before .before .before .no-winter .ensures,
-      c .before .before .if1 .left,
-      ← c .before .no-day .ensures,
-      c .if2 .taken,
-    )
+    kept _ (found (c .before .before .before .no-winter .ensures) (c .before .before .if1 .left))
+    (refused _ _ (found (c .before .no-day .ensures) (c .if2 .taken)))
 
 weekday-in-requires : tie.Need-weekday-in-requires
 weekday-in-requires c κs = search needs
@@ -35,13 +29,8 @@ weekday-in-requires c κs = search needs
 returns-3 : tie.Need-returns-3
 unfolding ofDay
 returns-3 c =
-    rw (
-      ← c .before .before .before .before .no-winter .ensures,
-      c .before .before .before .if1 .left,
-      ← c .before .before .no-day .ensures,
-      c .before .if2 .left,
-      ← c .weekday-in .ensures,
-    )
+    kept _ (found (c .before .before .before .before .no-winter .ensures) (c .before .before .before .if1 .left))
+    (kept _ (found (c .before .before .no-day .ensures) (c .before .if2 .left)) (rw (c .weekday-in .ensures)))
 
 pub weekday-of-spec : {M : Type 1} → statement M
 weekday-of-spec =

@@ -2,6 +2,7 @@
 -- Assumes nothing.
 use borrow.Author.Needs.{needs}
 use Rattle.calendar.specs.Answers.{ofDay}
+use Rattle.calendar.proofs.AnswerLaws.{fact-is}
 use Rattle.calendar.proofs.weekdays.weekend_day.Statement.{statement}
 use Rattle.calendar.proofs.weekdays.weekend_day.Tie as tie
 
@@ -13,11 +14,7 @@ fact-of-requires c κs = search needs
 
 returns : tie.Need-returns
 unfolding ofDay
-returns c =
-    rw (
-      ← c .before .is-weekend .ensures,
-      ← c .fact-of .ensures,
-    )
+returns c = fact-is _ _ (c .fact-of .ensures) (c .before .is-weekend .ensures)
 
 pub weekend-day-spec : {M : Type 1} → statement M
 weekend-day-spec = tie.close (tie.spec is-weekend-requires fact-of-requires returns)

@@ -10,9 +10,7 @@ days-in-requires c κs = search needs
 
 returns : tie.Need-returns
 unfolding inPeriod
-returns c =
-    rw
-    (← c .days-in .ensures)
+returns c = rw (c .days-in .ensures)
 
 pub in-period-spec : {M : Type 1} → statement M
 in-period-spec = tie.close (tie.spec days-in-requires returns)

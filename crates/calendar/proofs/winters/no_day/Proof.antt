@@ -10,9 +10,7 @@ days-in-requires c κs = search needs
 
 returns : tie.Need-returns
 unfolding noDay
-returns c =
-    rw
-    (← c .days-in .ensures)
+returns c = rw (c .days-in .ensures)
 
 pub no-day-spec : {M : Type 1} → statement M
 no-day-spec = tie.close (tie.spec days-in-requires returns)
