@@ -4,7 +4,7 @@
 // date of month a and day b, and on day a's part of a book of b numbers. What is written is compared and not proved.
 ghost use mathlib.Core.Path.{_≡_};
 ghost use Prim.Native.Nat.{ℕ, _%_, _<_};
-ghost use lib.ListN.{length, getD};
+ghost use lib.ListN.{length, getD, take};
 ghost use Rattle.calendar_answers.specs.Digits.{spelled};
 use calendar::Date;
 use calendar::Days;
@@ -13,6 +13,22 @@ use calendar::Number;
 use calendar::Sunday;
 use libc::STDIN_FILENO;
 use libc::STDOUT_FILENO;
+
+fn main() {
+    let mut query = [0u8; 33];
+    let book = counted_book();
+    for _ in 0u32..1000000 {
+        if io::read_full(STDIN_FILENO, &mut query) < 33 {
+            return;
+        }
+        answer(
+            &book,
+            number(&query[0..10]),
+            number(&query[11..21]),
+            number(&query[22..32]),
+        );
+    }
+}
 
 // The number that decimal digits spell, kept below 2^32. The last four bits of a digit's byte are its value.
 fn number(digits: &[u8]) -> u32
@@ -32,22 +48,6 @@ fn low(byte: u8) -> u64
     ensures { λ r. ⌜ r ≡ byte % 16 ⌝ }
 {
     (byte % 16) as u64
-}
-
-fn main() {
-    let mut query = [0u8; 33];
-    let book = counted_book();
-    for _ in 0u32..1000000 {
-        if io::read_full(STDIN_FILENO, &mut query) < 33 {
-            return;
-        }
-        answer(
-            &book,
-            number(&query[0..10]),
-            number(&query[11..21]),
-            number(&query[22..32]),
-        );
-    }
 }
 
 // The longest book, 24 hours of 152 days, with each index at its place, so that a reading tells where it stood.
@@ -90,7 +90,9 @@ fn answer(book: &[u32], w: u32, a: u32, b: u32) {
 }
 
 // The first n numbers of the book, or all of them where it has fewer.
-fn lent(book: &[u32], n: u32) -> &[u32] {
+fn lent(book: &[u32], n: u32) -> &[u32]
+    ensures { λ r. ⌜ now r ≡ take n (now (book .entry)) ⌝ }
+{
     let end = n as usize;
     if end < book.len() {
         return &book[0..end];
