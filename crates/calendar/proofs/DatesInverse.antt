@@ -66,7 +66,7 @@ first-value : (x d : ℕ) → given (x ∷ []) ≡ given (d ∷ []) → x ≡ d
 first-value x d e = ap (λ (a : Answer). getD (a .values) 0 0) e
 
 module _ (n : ℕ) (lengths : List ℕ) (now first month day d : ℕ) where
-  in-this : now ≡ month → (b : Bool) → (ltb day 1 || ltb n day) ≡ b → refuse b 10 (given ((first + day - 1) ∷ [])) ≡ given (d ∷ []) → FoundAt (n ∷ lengths) now first month day d
+  in-this : now ≡ month → (b : Bool) → (ltb day 1 || ltb n day) ≡ b → refuse b (refusal 10) (given ((first + day - 1) ∷ [])) ≡ given (d ∷ []) → FoundAt (n ∷ lengths) now first month day d
   unfolding FoundAt dateFrom refuse
   in-this m true q e = no-refusal 9 (d ∷ []) e
   in-this m false q e =
@@ -102,6 +102,6 @@ pub day-leads-back : (y month day d : ℕ) → bookDayOf y month day ≡ given (
 unfolding bookDayOf dateOf refuse FoundAt
 day-leads-back y month day d e = by (noWinter y) e
   where
-    by : (b : Bool) → refuse b 1 (bookDayFrom (monthLengths y) november 0 month day) ≡ given (d ∷ []) → refuse b 1 (dateFrom (monthLengths y) november d) ≡ given (month ∷ day ∷ [])
+    by : (b : Bool) → refuse b (refusal 1) (bookDayFrom (monthLengths y) november 0 month day) ≡ given (d ∷ []) → refuse b (refusal 1) (dateFrom (monthLengths y) november d) ≡ given (month ∷ day ∷ [])
     by true e = no-refusal 0 (d ∷ []) e
     by false e = let z : d - 0 ≡ d = omega arith in rw z at (found-at (monthLengths y) november 0 month day d e .1)

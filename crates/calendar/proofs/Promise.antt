@@ -4,19 +4,21 @@ use Prim.Native.Nat.{ℕ, _+_, _%_, _≤_, _<_}
 use mathlib.Core.Bool.{Bool, true, false, not, cond, _&&_, _||_}
 use mathlib.Core.List.{[], _∷_, map}
 use mathlib.Core.Logic.{_⊎_, inl, inr, _↔_}
-use mathlib.Core.Path.{_≡_, refl, _∙_}
+use mathlib.Core.Path.{_≡_, refl, sym, ap, _∙_}
 use native.Mathlib.Omega.{arith}
 use lib.Dec.{T, leb, ltb, eqb, leb→le}
 use borrow.Author.Tests.{ltb-false, leb-true, leb-false, ltb-true, le-leb, lt-leb, lt-ltb, ne-eqb}
 use Rattle.laws.proofs.Below.{below, howMany}
 use Rattle.laws.proofs.Guards.{both, neither}
-use Rattle.laws.specs.Answer.{given, refuse}
-use Rattle.calendar.specs.Answers.{dateOf}
+use Rattle.laws.specs.Answer.{Answer, given, refusal, refuse}
+use Rattle.calendar.specs.Answers.{daysPaper, winterDays, dateOf}
 use Rattle.calendar.specs.Dates.{monthLengths, dateFrom}
 use Rattle.calendar.specs.Easter.{easterInBook}
 use Rattle.calendar.specs.Excluded.{fixedDays, among, goodFriday, easterMonday, excluded}
 use Rattle.calendar.specs.Weekdays.{firstWeekday, weekday, weekend}
 use Rattle.calendar.specs.Winters.{noWinter, leap, days, noDay, inPeriod}
+use Rattle.calendar.specs.declared.answers.Days.{Days}
+use Rattle.calendar.specs.declared.answers.Days.the-variants.{Are, NoWinter}
 use Rattle.calendar.proofs.Bounds.{easter-range}
 
 -- winters, N and the winter period
@@ -34,6 +36,23 @@ days-two y = either (leap (y + 1)) 152 151
     either : (b : Bool) (m n : ℕ) → (cond b m n ≡ n) ⊎ (cond b m n ≡ m)
     either true m n = inr refl
     either false m n = inl refl
+
+-- what the two answers of `winter_days` tell
+pub no-winter : (y : ℕ) (r : Days) → r ≡ NoWinter → daysPaper r ≡ winterDays y → noWinter y ≡ true
+unfolding winterDays refuse
+no-winter y r q e = by (noWinter y) (ap (λ (r : Days). daysPaper r .number) (sym q) ∙ ap (λ (a : Answer). a .number) e)
+  where
+    by : (b : Bool) → 1 ≡ refuse b (refusal 1) (given (days y ∷ [])) .number → b ≡ true
+    by true e = refl
+    by false e = absurd (omega arith)
+
+pub is-winter : (y n : ℕ) (r : Days) → r ≡ Are n → daysPaper r ≡ winterDays y → noWinter y ≡ false
+unfolding winterDays refuse
+is-winter y n r q e = by (noWinter y) (ap (λ (r : Days). daysPaper r .number) (sym q) ∙ ap (λ (a : Answer). a .number) e)
+  where
+    by : (b : Bool) → 0 ≡ refuse b (refusal 1) (given (days y ∷ [])) .number → b ≡ false
+    by true e = absurd (omega arith)
+    by false e = refl
 
 pub book-day : (y d : ℕ) → noDay y d ≡ false → d < days y
 unfolding noDay

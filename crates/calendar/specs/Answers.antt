@@ -47,14 +47,14 @@ datePaper DateCase.NoDay = refusal 10
 
 -- what each call answers
 unfoldable pub winterDays : ℕ → Answer
-winterDays y = refuse (noWinter y) 1 (given (days y ∷ []))
+winterDays y = refuse (noWinter y) (refusal 1) (given (days y ∷ []))
 
 unfoldable pub easterSunday : ℕ → Answer
-easterSunday y = refuse (noEasterYear y) 1 (given (easterMonth y ∷ easterDay y ∷ []))
+easterSunday y = refuse (noEasterYear y) (refusal 1) (given (easterMonth y ∷ easterDay y ∷ []))
 
 -- a call on a book day: the values, if it is one
 unfoldable pub ofDay : ℕ → ℕ → List ℕ → Answer
-ofDay y d values = refuse (noWinter y) 1 (refuse (noDay y d) 10 (given values))
+ofDay y d values = refuse (noWinter y) (refusal 1) (refuse (noDay y d) (refusal 10) (given values))
 
 abbrev pub weekdayOf : ℕ → ℕ → Answer
 weekdayOf y d = ofDay y d (weekday y d ∷ [])
@@ -66,7 +66,7 @@ abbrev pub excludedDay : ℕ → ℕ → Answer
 excludedDay y d = ofDay y d (bit (excluded y d) ∷ [])
 
 unfoldable pub dateOf : ℕ → ℕ → Answer
-dateOf y d = refuse (noWinter y) 1 (dateFrom (monthLengths y) november d)
+dateOf y d = refuse (noWinter y) (refusal 1) (dateFrom (monthLengths y) november d)
 
 unfoldable pub bookDayOf : ℕ → ℕ → ℕ → Answer
-bookDayOf y month day = refuse (noWinter y) 1 (bookDayFrom (monthLengths y) november 0 month day)
+bookDayOf y month day = refuse (noWinter y) (refusal 1) (bookDayFrom (monthLengths y) november 0 month day)

@@ -31,7 +31,7 @@ dateFrom (n ∷ lengths) month left =
 
 -- the book day of a day of the month that starts at book day `first` and has n days
 unfoldable pub dayInMonth : ℕ → ℕ → ℕ → Answer
-dayInMonth first n day = refuse (ltb day 1 || ltb n day) 10 (given ((first + day - 1) ∷ []))
+dayInMonth first n day = refuse (ltb day 1 || ltb n day) (refusal 10) (given ((first + day - 1) ∷ []))
 
 -- the book day of a date, looked for in the months from `now` on, which starts at book day `first`
 unfoldable pub bookDayFrom : List ℕ → ℕ → ℕ → ℕ → ℕ → Answer

@@ -1,5 +1,7 @@
 pub mod Below
+pub mod Every
 pub mod Guards
 pub mod ReadBack
 pub mod Refusals
 pub mod Same
+pub mod Tables

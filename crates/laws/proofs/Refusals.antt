@@ -1,14 +1,13 @@
 -- Laws of refusals in a column: the first fault decides, and without it what comes after.
 -- Assumes nothing.
-use Prim.Native.Nat.{ℕ}
 use mathlib.Core.Bool.{Bool, true, false}
 use mathlib.Core.Path.{_≡_}
-use Rattle.laws.specs.Answer.{Answer, refusal, refuse}
+use Rattle.laws.specs.Answer.{Answer, refuse}
 
-pub refused : (n : ℕ) (rest : Answer) {f : Bool} → f ≡ true → refusal n ≡ refuse f n rest
+pub refused : (a rest : Answer) {f : Bool} → f ≡ true → a ≡ refuse f a rest
 unfolding refuse
-refused n rest e = rw e
+refused a rest e = rw e
 
-pub kept : (n : ℕ) {f : Bool} {a rest : Answer} → f ≡ false → a ≡ rest → a ≡ refuse f n rest
+pub kept : (other : Answer) {f : Bool} {a rest : Answer} → f ≡ false → a ≡ rest → a ≡ refuse f other rest
 unfolding refuse
-kept n e q = rw (e, q)
+kept other e q = rw (e, q)

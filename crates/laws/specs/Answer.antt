@@ -17,10 +17,10 @@ given vs = record { number = 0; values = vs }
 abbrev pub refusal : ℕ → Answer
 refusal n = record { number = n; values = [] }
 
--- the refusal n where the fault is there, else what comes after it: a column of these reads like the table of refusals
-unfoldable pub refuse : Bool → ℕ → Answer → Answer
-refuse true n rest = refusal n
-refuse false n rest = rest
+-- the refusal where the fault is there, else what comes after it: a column of these reads like the table of refusals
+unfoldable pub refuse : Bool → Answer → Answer → Answer
+refuse true refused rest = refused
+refuse false refused rest = rest
 
 -- a yes or no as a value: 1 or 0
 abbrev pub bit : Bool → ℕ

@@ -1,0 +1,7 @@
+-- What holds of every element of a list, as a product that computes on a list that is written out.
+-- Assumes nothing.
+use mathlib.Core.List.{List, [], _∷_}
+
+abbrev pub Every : {A : Type 0} → (A → Type 0) → List A → Type 0
+Every P [] = Unit {0}
+Every P (x ∷ xs) = P x × Every P xs

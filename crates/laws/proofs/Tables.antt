@@ -1,0 +1,126 @@
+-- Laws of tables of refusals: a table accepts exactly when no row is broken, and what it refuses is its first broken row.
+-- Assumes nothing.
+use Prim.Native.Nat.{ℕ, _≤_}
+use mathlib.Core.Bool.{Bool, true, false}
+use mathlib.Core.List.{List, [], _∷_, _++_}
+use mathlib.Core.Path.{_≡_, refl, ap}
+use native.Mathlib.Omega.{arith}
+use lib.Dec.{eqb}
+use borrow.Author.Tests.{eqb-true, ne-eqb, not-false}
+use Rattle.laws.specs.Answer.{Answer, refuse}
+use Rattle.laws.specs.Table.{accepted, refusalAt, Row, row, firstOf, isRefusal, orElse}
+use Rattle.laws.proofs.Every.{Every}
+use Rattle.laws.proofs.Refusals.{refused, kept}
+
+-- the numbers of a table's rows are refusal numbers
+abbrev pub Numbered : List Row → Type 0
+Numbered = Every (λ (r : Row). 1 ≤ r .number)
+
+-- no row of a table is broken
+abbrev pub NoneBroken : List Row → Type 0
+NoneBroken = Every (λ (r : Row). r .broken ≡ false)
+
+not-accepted : {X : Type 0} (n place : ℕ) → 1 ≤ n → refusalAt n place ≡ accepted → X
+not-accepted n place h e = let z : n ≡ 0 = ap (λ (a : Answer). a .number) e in absurd (omega arith)
+
+module _ (place : ℕ) where
+  none-broken : (r : Row) (rows : List Row) → 1 ≤ r .number → (firstOf place rows ≡ accepted → NoneBroken rows)
+      → (b : Bool) → r .broken ≡ b → refuse b (refusalAt (r .number) place) (firstOf place rows) ≡ accepted → NoneBroken (r ∷ rows)
+  unfolding refuse
+  none-broken r rows n rest true q e = not-accepted (r .number) place n e
+  none-broken r rows n rest false q e = (q, rest e)
+
+  pub accepted-none : (rows : List Row) → Numbered rows → firstOf place rows ≡ accepted → NoneBroken rows
+  unfolding firstOf
+  accepted-none [] n e = tt
+  accepted-none (r ∷ rows) n e = none-broken r rows (n .0) (accepted-none rows (n .1)) (r .broken) refl e
+
+  pub none-accepted : (rows : List Row) → NoneBroken rows → firstOf place rows ≡ accepted
+  unfolding firstOf refuse
+  none-accepted [] t = refl
+  none-accepted (r ∷ rows) t = rw (t .0) (none-accepted rows (t .1))
+
+-- the first broken row: its number is what is answered, at the given place, and no row before it is broken
+pub record BrokenAt (place : ℕ) (rows : List Row) : Type 0 where
+  pub number : ℕ
+  pub before : List Row
+  pub after : List Row
+  pub answer : firstOf place rows ≡ refusalAt number place
+  pub rows-are : rows ≡ before ++ (row number true ∷ after)
+  pub kept-before : NoneBroken before
+
+module _ (place : ℕ) where
+  here-or-later : (r : Row) (rows : List Row) → (isRefusal (firstOf place rows) ≡ true → BrokenAt place rows)
+      → (b : Bool) → r .broken ≡ b → isRefusal (refuse b (refusalAt (r .number) place) (firstOf place rows)) ≡ true → BrokenAt place (r ∷ rows)
+  unfolding firstOf refuse
+  here-or-later r rows later true q e =
+      record {
+        number = r .number;
+        before = [];
+        after = rows;
+        answer = rw q;
+        rows-are = ap (λ (b : Bool). row (r .number) b ∷ rows) q;
+        kept-before = tt;
+      }
+  here-or-later r rows later false q e =
+      let t = later e in
+      record {
+        number = t .number;
+        before = r ∷ t .before;
+        after = t .after;
+        answer = rw q (t .answer);
+        rows-are = ap (λ (xs : List Row). r ∷ xs) (t .rows-are);
+        kept-before = (q, t .kept-before);
+      }
+
+  pub first-broken : (rows : List Row) → isRefusal (firstOf place rows) ≡ true → BrokenAt place rows
+  unfolding firstOf
+  first-broken [] e = let z : _≡_ {A = ℕ} 0 1 = cc in absurd (omega arith)
+  first-broken (r ∷ rows) e = here-or-later r rows (first-broken rows) (r .broken) refl e
+
+-- one answer after another
+
+pub else-stop : (a b : Answer) → isRefusal a ≡ true → a ≡ orElse a b
+unfolding orElse
+else-stop a b e = refused a b e
+
+pub else-go : (a b : Answer) {x : Answer} → isRefusal a ≡ false → x ≡ b → x ≡ orElse a b
+unfolding orElse
+else-go a b e q = kept a e q
+
+pub else-accepted : (a b : Answer) → orElse a b ≡ accepted → (isRefusal a ≡ false) × (b ≡ accepted)
+unfolding orElse refuse
+else-accepted a b e = by (isRefusal a) refl e
+  where
+    by : (t : Bool) → isRefusal a ≡ t → refuse t a b ≡ accepted → (isRefusal a ≡ false) × (b ≡ accepted)
+    by true q e = let z : isRefusal a ≡ false = ap isRefusal e in (z, absurd (clash q z))
+      where
+        clash : isRefusal a ≡ true → isRefusal a ≡ false → ⊥
+        clash p r = let z : _≡_ {A = ℕ} 0 1 = cc in omega arith
+    by false q e = (q, e)
+
+-- a table's answer that is no refusal accepts
+module _ (place : ℕ) where
+  not-here : (r : Row) (rows : List Row) → 1 ≤ r .number → (isRefusal (firstOf place rows) ≡ false → firstOf place rows ≡ accepted)
+      → (b : Bool) → isRefusal (refuse b (refusalAt (r .number) place) (firstOf place rows)) ≡ false → refuse b (refusalAt (r .number) place) (firstOf place rows) ≡ accepted
+  unfolding refuse
+  not-here r rows n rest true e = let z : r .number ≡ 0 = eqb-true (r .number) 0 (not-false (eqb (r .number) 0) e) in absurd (omega arith)
+  not-here r rows n rest false e = rest e
+
+  pub not-refused : (rows : List Row) → Numbered rows → isRefusal (firstOf place rows) ≡ false → firstOf place rows ≡ accepted
+  unfolding firstOf
+  not-refused [] n e = refl
+  not-refused (r ∷ rows) n e = not-here r rows (n .0) (not-refused rows (n .1)) (r .broken) e
+
+-- a table in two parts: the first part decides, else the second
+module _ (place : ℕ) where
+  part-here : (r : Row) (rows more : List Row) → 1 ≤ r .number → firstOf place (rows ++ more) ≡ orElse (firstOf place rows) (firstOf place more)
+      → (b : Bool) → refuse b (refusalAt (r .number) place) (firstOf place (rows ++ more)) ≡ orElse (refuse b (refusalAt (r .number) place) (firstOf place rows)) (firstOf place more)
+  unfolding refuse
+  part-here r rows more n rest true = else-stop (refusalAt (r .number) place) (firstOf place more) (rw (ne-eqb (r .number) 0 (λ (e : r .number ≡ 0). omega arith)))
+  part-here r rows more n rest false = rest
+
+  pub in-parts : (rows more : List Row) → Numbered rows → firstOf place (rows ++ more) ≡ orElse (firstOf place rows) (firstOf place more)
+  unfolding firstOf
+  in-parts [] more n = else-go accepted (firstOf place more) refl refl
+  in-parts (r ∷ rows) more n = part-here r rows more (n .0) (in-parts rows more (n .1)) (r .broken)

@@ -1,0 +1,177 @@
+-- Laws of the walk over the notices: what a notice that is not refused has passed, and one law for each way out of the loop and for a turn.
+-- The invariant: what stands before notice k is what the list has before it, and the notices from k on give what the whole list gives.
+-- Assumes nothing.
+use Prim.Native.Nat.{ℕ, zero, suc, _+_, _-_, _/_, _%_, _≤_, _<_}
+use mathlib.Core.Bool.{Bool, true, false, not, _||_}
+use mathlib.Core.List.{List}
+use mathlib.Core.Path.{_≡_, refl, sym, ap, _∙_}
+use native.Mathlib.Numerals.{add-one}
+use native.Mathlib.Omega.{arith}
+use lib.Dec.{ltb, eqb}
+use lib.ListN.{length}
+use borrow.Author.Tests.{ltb-false, eqb-true, not-false}
+use Rattle.laws.proofs.Guards.{neither}
+use Rattle.laws.proofs.Tables.{Numbered, NoneBroken, accepted-none, none-accepted, not-refused, else-stop, else-go, in-parts}
+use Rattle.laws.specs.Answer.{Answer}
+use Rattle.laws.specs.Table.{accepted, firstOf, isRefusal, orElse}
+use Rattle.schedule.specs.ListCheck.{ownRows, listRows, noticeRows, noticeAnswer, nothingBefore, afterNotice, sofarAt, answerAt, fromNotice, badList}
+use Rattle.schedule.specs.Notices.{noticeAt, hoursOf, hoursTo}
+use Rattle.schedule.specs.Rules.{outsidePeriod, excludedDay, barredWeekend, badHours, badLength, startsBefore, sameBand, overLimit}
+use Rattle.schedule.specs.Sane.{Sane}
+use Rattle.schedule.specs.declared.notices.Notice.{Notice}
+use Rattle.schedule.specs.declared.profiles.Figures.{Figures}
+use Rattle.schedule.specs.declared.rules.Sofar.{Sofar}
+
+-- a notice is accepted exactly when none of its rows is broken
+
+pub own-numbered : (w : ℕ) (f : Figures) (n : Notice) → Numbered (ownRows w f n)
+unfolding ownRows
+own-numbered w f n = (omega arith, (omega arith, (omega arith, (omega arith, (omega arith, tt)))))
+
+notice-numbered : (w : ℕ) (f : Figures) (so : Sofar) (n : Notice) → Numbered (noticeRows w f so n)
+unfolding noticeRows ownRows listRows
+notice-numbered w f so n =
+    (omega arith, (omega arith, (omega arith, (omega arith, (omega arith, (omega arith, (omega arith, (omega arith, tt))))))))
+
+-- the rules that a notice has passed, by name
+pub record Passed (w : ℕ) (f : Figures) (so : Sofar) (n : Notice) : Type 0 where
+  pub period : outsidePeriod w n ≡ false
+  pub open-day : excludedDay w n ≡ false
+  pub week : barredWeekend f w n ≡ false
+  pub hours : badHours f n ≡ false
+  pub long : badLength f n ≡ false
+  pub order : startsBefore (so .last) n ≡ false
+  pub apart : sameBand (so .last) n ≡ false
+  pub limit : overLimit f so n ≡ false
+
+module _ (w : ℕ) (f : Figures) (so : Sofar) (n : Notice) where
+  pub none-passed : NoneBroken (noticeRows w f so n) → Passed w f so n
+  unfolding noticeRows ownRows listRows
+  none-passed t =
+      record {
+        period = t .0;
+        open-day = t .1 .0;
+        week = t .1 .1 .0;
+        hours = t .1 .1 .1 .0;
+        long = t .1 .1 .1 .1 .0;
+        order = t .1 .1 .1 .1 .1 .0;
+        apart = t .1 .1 .1 .1 .1 .1 .0;
+        limit = t .1 .1 .1 .1 .1 .1 .1 .0;
+      }
+
+  passed-none : Passed w f so n → NoneBroken (noticeRows w f so n)
+  unfolding noticeRows ownRows listRows
+  passed-none t =
+      (t .period, (t .open-day, (t .week, (t .hours, (t .long, (t .order, (t .apart, (t .limit, tt))))))))
+
+  pub passed : (k : ℕ) → isRefusal (noticeAnswer w f so n k) ≡ false → Passed w f so n
+  unfolding noticeAnswer
+  passed k e =
+      let numbered = notice-numbered w f so n in
+      none-passed (accepted-none k (noticeRows w f so n) numbered (not-refused k (noticeRows w f so n) numbered e))
+
+  pub passed-accepted : (k : ℕ) → Passed w f so n → noticeAnswer w f so n k ≡ accepted
+  unfolding noticeAnswer
+  passed-accepted k t = none-accepted k (noticeRows w f so n) (passed-none t)
+
+-- the sums of a notice that is not refused fit
+
+module _ (w : ℕ) (f : Figures) (so : Sofar) (n : Notice) (ok : Sane f) (t : Passed w f so n) where
+  pub hours-fit : hoursOf n ≤ 4
+  unfolding badLength
+  hours-fit =
+      let p = neither (ltb (hoursOf n) (f .shortest)) (ltb (f .longest) (hoursOf n)) (t .long) in
+      omega (arith, ltb-false (f .longest) (hoursOf n) (p .1), ok .longest)
+
+  pub sum-fits : so .hours + hoursOf n ≤ 100
+  unfolding overLimit
+  sum-fits = omega (arith, ltb-false (f .hours) (so .hours + hoursOf n) (t .limit), ok .hours)
+
+-- the two parts of a notice's rules: its own first, and then those of the list
+
+module _ (w : ℕ) (f : Figures) (so : Sofar) (n : Notice) (k : ℕ) {a : Answer} (own : a ≡ firstOf k (ownRows w f n)) where
+  parts : noticeAnswer w f so n k ≡ orElse a (firstOf k (listRows f so n))
+  unfolding noticeAnswer noticeRows
+  parts = rw own (in-parts k (ownRows w f n) (listRows f so n) (own-numbered w f n))
+
+  pub notice-stop : isRefusal a ≡ true → a ≡ noticeAnswer w f so n k
+  notice-stop e = else-stop a (firstOf k (listRows f so n)) e ∙ sym parts
+
+  pub notice-go : {b : Answer} → isRefusal a ≡ false → b ≡ firstOf k (listRows f so n) → b ≡ noticeAnswer w f so n k
+  notice-go e q = else-go a (firstOf k (listRows f so n)) e q ∙ sym parts
+
+-- the walk by index
+
+module _ (w : ℕ) (f : Figures) (l : List ℕ) (n k : ℕ) where
+  from-step : k < n → fromNotice w f l (n - k) k ≡ orElse (answerAt w f l k) (fromNotice w f l (n - (k + 1)) (k + 1))
+  unfolding fromNotice
+  from-step h = let e : n - k ≡ suc (n - (k + 1)) = omega arith in rw (e, add-one k)
+
+  pub from-go : k < n → isRefusal (answerAt w f l k) ≡ false → fromNotice w f l (n - (k + 1)) (k + 1) ≡ fromNotice w f l (n - k) k
+  from-go h z = else-go (answerAt w f l k) (fromNotice w f l (n - (k + 1)) (k + 1)) z refl ∙ sym (from-step h)
+
+  pub from-stop : k < n → isRefusal (answerAt w f l k) ≡ true → answerAt w f l k ≡ fromNotice w f l (n - k) k
+  from-stop h z = else-stop (answerAt w f l k) (fromNotice w f l (n - (k + 1)) (k + 1)) z ∙ sym (from-step h)
+
+  pub from-done : n ≤ k → accepted ≡ fromNotice w f l (n - k) k
+  unfolding fromNotice
+  from-done h = let e : n - k ≡ 0 = omega arith in rw e
+
+sofar-hours : (l : List ℕ) (k : ℕ) → sofarAt l k .hours ≡ hoursTo l k
+unfolding sofarAt hoursTo
+sofar-hours l zero = refl
+sofar-hours l (suc k) = refl
+
+pub sofar-next : (l : List ℕ) (k : ℕ) → afterNotice (sofarAt l k) (noticeAt l k) ≡ sofarAt l (k + 1)
+unfolding afterNotice sofarAt hoursTo
+sofar-next l k = rw (add-one k, sofar-hours l k)
+
+-- the loop, over plain variables
+
+pub record Held (w : ℕ) (f : Figures) (l : List ℕ) (n : ℕ) (so : Sofar) (k : ℕ) : Type 0 where
+  pub within : k ≤ n
+  pub small : so .hours ≤ 100
+  pub same : so ≡ sofarAt l k
+  pub rest : fromNotice w f l (n - k) k ≡ fromNotice w f l n 0
+
+pub held-start : (w : ℕ) (f : Figures) (l : List ℕ) (n : ℕ) (so : Sofar) → so ≡ nothingBefore → Held w f l n so 0
+unfolding sofarAt
+held-start w f l n so e =
+    let z : n - 0 ≡ n = omega arith in
+    record { within = omega arith; small = rw e (omega arith); same = e; rest = rw z }
+
+module _ {w : ℕ} {f : Figures} {l : List ℕ} {n : ℕ} {so : Sofar} {k : ℕ} (h : Held w f l n so k) where
+  pub held-done : n ≤ k → accepted ≡ fromNotice w f l n 0
+  held-done e = from-done w f l n k e ∙ h .rest
+
+  module _ {m : Notice} {a : Answer} (at : m ≡ noticeAt l k) (said : a ≡ noticeAnswer w f so m k) where
+    answer-is : a ≡ answerAt w f l k
+    unfolding answerAt
+    answer-is = said ∙ rw (h .same, at)
+
+    pub held-stop : k < n → isRefusal a ≡ true → a ≡ fromNotice w f l n 0
+    held-stop e t = answer-is ∙ from-stop w f l n k e (ap isRefusal (sym answer-is) ∙ t) ∙ h .rest
+
+    passed-here : isRefusal a ≡ false → Passed w f so m
+    passed-here t = passed w f so m k (ap isRefusal (sym said) ∙ t)
+
+    pub held-fits : Sane f → isRefusal a ≡ false → (so .hours ≤ 100) × (hoursOf m ≤ 24)
+    held-fits ok t = (h .small, omega (arith, hours-fit w f so m ok (passed-here t)))
+
+    pub held-next : {next : Sofar} → Sane f → k < n → isRefusal a ≡ false → next ≡ afterNotice so m → Held w f l n next (k + 1)
+    unfolding afterNotice
+    held-next {next} ok e t q =
+        record {
+          within = omega arith;
+          small = rw q (sum-fits w f so m ok (passed-here t));
+          same = q ∙ rw (h .same, at) (sofar-next l k);
+          rest = from-go w f l n k e (ap isRefusal (sym answer-is) ∙ t) ∙ h .rest;
+        }
+
+-- a list of whole triples, not more than 100, holds at most 100 notices
+pub list-fits : (n : ℕ) → badList n ≡ false → (n % 3 ≡ 0) × (n / 3 ≤ 100)
+unfolding badList
+list-fits n e =
+    let p = neither (not (eqb (n % 3) 0)) (ltb 300 n) e in
+    let a : n ≤ 300 = ltb-false 300 n (p .1) in
+    (eqb-true (n % 3) 0 (not-false (eqb (n % 3) 0) (p .0)), omega arith)

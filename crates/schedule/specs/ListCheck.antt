@@ -1,0 +1,81 @@
+-- The list check: the tables of rules, and the order in which they are tried.
+-- "Order: list check 1, 5, 4, then the notices; .. Numbers 10 to 18 are tried in that order for the first notice, then the next; the
+-- place is the notice's index from 0."
+-- Assumes nothing.
+use Prim.Native.Nat.{ℕ, zero, suc, _+_, _%_}
+use mathlib.Core.Bool.{Bool, not, _||_}
+use mathlib.Core.List.{List, [], _∷_, _++_}
+use lib.Dec.{ltb, eqb}
+use lib.ListN.{length}
+use Rattle.calendar.specs.Winters.{noWinter}
+use Rattle.laws.specs.Answer.{Answer, refuse}
+use Rattle.laws.specs.Table.{accepted, refusalAt, Row, row, firstOf, orElse}
+use Rattle.schedule.specs.Notices.{countOf, noNotice, noticeAt, hoursOf, hoursTo}
+use Rattle.schedule.specs.Profiles.{figuresOf, named}
+use Rattle.schedule.specs.Rules.{outsidePeriod, excludedDay, barredWeekend, badHours, badLength, startsBefore, sameBand, overLimit}
+use Rattle.schedule.specs.declared.notices.Notice.{Notice}
+use Rattle.schedule.specs.declared.profiles.Figures.{Figures}
+use Rattle.schedule.specs.declared.profiles.Named.{Named}
+use Rattle.schedule.specs.declared.profiles.Named.the-variants.{Is, NoProfile}
+use Rattle.schedule.specs.declared.rules.Sofar.{Sofar}
+
+-- the rules of a notice by itself
+unfoldable pub ownRows : ℕ → Figures → Notice → List Row
+ownRows w f n =
+    row 10 (outsidePeriod w n)
+    ∷ row 11 (excludedDay w n)
+    ∷ row 12 (barredWeekend f w n)
+    ∷ row 13 (badHours f n)
+    ∷ row 14 (badLength f n)
+    ∷ []
+
+-- the rules of a notice among the others
+unfoldable pub listRows : Figures → Sofar → Notice → List Row
+listRows f so n =
+    row 15 (startsBefore (so .last) n)
+    ∷ row 16 (sameBand (so .last) n)
+    ∷ row 18 (overLimit f so n)
+    ∷ []
+
+-- all rules of a notice, in their order
+unfoldable pub noticeRows : ℕ → Figures → Sofar → Notice → List Row
+noticeRows w f so n = ownRows w f n ++ listRows f so n
+
+unfoldable pub noticeAnswer : ℕ → Figures → Sofar → Notice → ℕ → Answer
+noticeAnswer w f so n k = firstOf k (noticeRows w f so n)
+
+-- what stands before a notice: before the first, none; before the next, this notice and the hours with it
+abbrev pub nothingBefore : Sofar
+nothingBefore = record { last = noNotice; hours = 0 }
+
+unfoldable pub afterNotice : Sofar → Notice → Sofar
+afterNotice so n = record { last = n; hours = so .hours + hoursOf n }
+
+unfoldable pub sofarAt : List ℕ → ℕ → Sofar
+sofarAt l zero = nothingBefore
+sofarAt l (suc k) = record { last = noticeAt l k; hours = hoursTo l (suc k) }
+
+unfoldable pub answerAt : ℕ → Figures → List ℕ → ℕ → Answer
+answerAt w f l k = noticeAnswer w f (sofarAt l k) (noticeAt l k) k
+
+-- the notices from index k on, of which there are `left`
+unfoldable pub fromNotice : ℕ → Figures → List ℕ → ℕ → ℕ → Answer
+fromNotice w f l zero k = accepted
+fromNotice w f l (suc left) k = orElse (answerAt w f l k) (fromNotice w f l left (suc k))
+
+-- "4: list not whole triples, or more than 100"
+unfoldable pub badList : ℕ → Bool
+badList length = not (eqb (length % 3) 0) || ltb 300 length
+
+-- the list by a profile's figures
+unfoldable pub listAnswer : ℕ → Figures → List ℕ → Answer
+listAnswer w f l = refuse (badList (length l)) (refusalAt 4 0) (fromNotice w f l (countOf l) 0)
+
+-- "5: profile neither 1 nor 2"
+abbrev pub namedAnswer : ℕ → Named → List ℕ → Answer
+namedAnswer w (Is p) l = listAnswer w (figuresOf p) l
+namedAnswer w NoProfile l = refusalAt 5 0
+
+-- "1: Y outside 2010..2098"
+unfoldable pub checkAnswer : ℕ → ℕ → List ℕ → Answer
+checkAnswer w q l = refuse (noWinter w) (refusalAt 1 0) (namedAnswer w (named q) l)

@@ -1,0 +1,16 @@
+// Notices that can stand together: the profiles, the notices of a list, and the list check.
+mod list_check;
+mod notices;
+mod profiles;
+mod rules;
+mod verdicts;
+
+pub use list_check::check;
+pub use notices::Notice;
+pub use notices::notice_at;
+pub use profiles::Figures;
+pub use profiles::Profile;
+pub use verdicts::Rule;
+pub use verdicts::Verdict;
+pub use verdicts::number_of;
+pub use verdicts::place_of;

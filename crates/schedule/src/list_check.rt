@@ -1,0 +1,156 @@
+// The list check: whether the notices of a list can stand together under a profile.
+ghost use mathlib.Core.Path.{_≡_};
+ghost use Prim.Native.Nat.{_*_, _≤_};
+ghost use lib.ListN.{length};
+ghost use Rattle.laws.specs.Table.{firstOf};
+ghost use Rattle.schedule.specs.Verdicts.{verdictPaper};
+ghost use Rattle.schedule.specs.Notices.{hoursOf};
+ghost use Rattle.schedule.specs.ListCheck.{ownRows, listRows, noticeAnswer, nothingBefore, afterNotice, fromNotice, badList, listAnswer, checkAnswer};
+ghost use Rattle.schedule.specs.Sane.{Sane};
+use crate::notices::Notice;
+use crate::notices::hours_of;
+use crate::notices::notice_at;
+use crate::profiles::Figures;
+use crate::profiles::Named;
+use crate::profiles::profile_named;
+use crate::rules::Sofar;
+use crate::rules::bad_hours;
+use crate::rules::bad_length;
+use crate::rules::barred_weekend;
+use crate::rules::excluded_day;
+use crate::rules::outside_period;
+use crate::rules::over_limit;
+use crate::rules::same_band;
+use crate::rules::starts_before;
+use crate::verdicts::Rule;
+use crate::verdicts::Verdict;
+use crate::verdicts::is_refused;
+use calendar::Days;
+
+// Rules 10 to 14: the notice at place k by itself.
+fn own_verdict(winter: u32, f: Figures, n: Notice, k: u32) -> Verdict
+    ensures { λ r. ⌜ verdictPaper r ≡ firstOf k (ownRows winter f n) ⌝ }
+{
+    if outside_period(winter, n) {
+        return Verdict::Refused(Rule::OutsidePeriod, k);
+    }
+    if excluded_day(winter, n) {
+        return Verdict::Refused(Rule::ExcludedDay, k);
+    }
+    if barred_weekend(f, winter, n) {
+        return Verdict::Refused(Rule::Weekend, k);
+    }
+    if bad_hours(f, n) {
+        return Verdict::Refused(Rule::BadHours, k);
+    }
+    if bad_length(f, n) {
+        return Verdict::Refused(Rule::BadLength, k);
+    }
+    Verdict::Accepted
+}
+
+// Rules 15, 16 and 18: the notice at place k among the others.
+fn list_verdict(f: Figures, so: Sofar, n: Notice, k: u32) -> Verdict
+    ensures { λ r. ⌜ verdictPaper r ≡ firstOf k (listRows f so n) ⌝ }
+{
+    let last = so.last;
+    if starts_before(last, n) {
+        return Verdict::Refused(Rule::StartsBefore, k);
+    }
+    if same_band(last, n) {
+        return Verdict::Refused(Rule::SameBand, k);
+    }
+    if over_limit(f, so, n) {
+        return Verdict::Refused(Rule::OverLimit, k);
+    }
+    Verdict::Accepted
+}
+
+// All rules of the notice at place k.
+fn notice_verdict(winter: u32, f: Figures, so: Sofar, n: Notice, k: u32) -> Verdict
+    ensures { λ r. ⌜ verdictPaper r ≡ noticeAnswer winter f so n k ⌝ }
+{
+    let own = own_verdict(winter, f, n, k);
+    if is_refused(own) {
+        return own;
+    }
+    list_verdict(f, so, n, k)
+}
+
+// Before the first notice stands none: no hours, on day 0.
+fn nothing_before() -> Sofar
+    ensures { λ r. ⌜ r ≡ nothingBefore ⌝ }
+{
+    let last = Notice {
+        day: 0,
+        start: 0,
+        end: 0,
+    };
+    Sofar { last, hours: 0 }
+}
+
+// What stands before the next notice.
+fn after_notice(so: Sofar, n: Notice) -> Sofar
+    requires { ⌜ (so .hours ≤ 100) × (hoursOf n ≤ 24) ⌝ }
+    ensures { λ r. ⌜ r ≡ afterNotice so n ⌝ }
+{
+    let hours = hours_of(n);
+    Sofar {
+        last: n,
+        hours: so.hours + hours,
+    }
+}
+
+// The first refusal among the notices of a list.
+fn check_notices(winter: u32, f: Figures, list: &[u32], count: usize) -> Verdict
+    requires { ⌜ Sane f × (count ≤ 100) ⌝ }
+    ensures { λ r. ⌜ verdictPaper r ≡ fromNotice winter f (now (list .entry)) count 0 ⌝ }
+{
+    let mut so = nothing_before();
+    let mut k: usize = 0;
+    while k < count {
+        let n = notice_at(list, k);
+        let verdict = notice_verdict(winter, f, so, n, k as u32);
+        if is_refused(verdict) {
+            return verdict;
+        }
+        let next = after_notice(so, n);
+        so = next;
+        k += 1;
+    }
+    Verdict::Accepted
+}
+
+// 4: the list is not whole triples, or more than 100.
+fn bad_list(length: usize) -> bool
+    ensures { λ r. ⌜ r ≡ badList length ⌝ }
+{
+    (length % 3 != 0) | (300 < length)
+}
+
+// The list by a profile's figures.
+fn check_list(winter: u32, f: Figures, list: &[u32]) -> Verdict
+    requires { ⌜ Sane f ⌝ }
+    ensures { λ r. ⌜ verdictPaper r ≡ listAnswer winter f (now (list .entry)) ⌝ }
+{
+    let length = list.len();
+    if bad_list(length) {
+        return Verdict::Refused(Rule::BadList, 0);
+    }
+    check_notices(winter, f, list, length / 3)
+}
+
+// Whether a list of notices stands under a profile in a winter, or the first rule that it breaks.
+pub fn check(winter: u32, profile: u32, list: &[u32]) -> Verdict
+    ensures { λ r. ⌜ verdictPaper r ≡ checkAnswer winter profile (now (list .entry)) ⌝ }
+{
+    let days = calendar::winter_days(winter);
+    let Days::Are(_) = days else {
+        return Verdict::Refused(Rule::NoWinter, 0);
+    };
+    let named = profile_named(profile);
+    let Named::Is(p) = named else {
+        return Verdict::Refused(Rule::NoProfile, 0);
+    };
+    check_list(winter, p.figures(), list)
+}

@@ -1,0 +1,79 @@
+// The rules of a notice, each a fault test: true where the rule is broken. They go by the figures and never by the profile.
+ghost use mathlib.Core.Path.{_≡_};
+ghost use Rattle.schedule.specs.Rules.{outsidePeriod, excludedDay, barredWeekend, outsideBands, badHours, badLength, startsBefore, sameBand, overLimit};
+use crate::notices::Notice;
+use crate::notices::hours_of;
+use crate::profiles::Figures;
+use crate::profiles::Profile;
+
+// What stands before a notice: the notice before it and the hours of all before it.
+pub struct Sofar {
+    pub last: Notice,
+    pub hours: u32,
+}
+
+// 10: the day is outside the winter period.
+pub(crate) fn outside_period(winter: u32, n: Notice) -> bool
+    ensures { λ r. ⌜ r ≡ outsidePeriod winter n ⌝ }
+{
+    !calendar::in_period(winter, n.day)
+}
+
+// 11: an excluded day.
+pub(crate) fn excluded_day(winter: u32, n: Notice) -> bool
+    ensures { λ r. ⌜ r ≡ excludedDay winter n ⌝ }
+{
+    calendar::is_excluded(winter, n.day)
+}
+
+// 12: a weekend day, under a profile that has none.
+pub(crate) fn barred_weekend(f: Figures, winter: u32, n: Notice) -> bool
+    ensures { λ r. ⌜ r ≡ barredWeekend f winter n ⌝ }
+{
+    !f.weekends & calendar::is_weekend(winter, n.day)
+}
+
+// The hours are not inside one band.
+fn outside_bands(f: Figures, n: Notice) -> bool
+    ensures { λ r. ⌜ r ≡ outsideBands f n ⌝ }
+{
+    ((n.start < Profile::MORNING) | (f.morning < n.end))
+        & ((n.start < Profile::EVENING) | (Profile::EVENING_END < n.end))
+}
+
+// 13: the hours are empty, reversed or not inside one band.
+pub(crate) fn bad_hours(f: Figures, n: Notice) -> bool
+    ensures { λ r. ⌜ r ≡ badHours f n ⌝ }
+{
+    (n.end <= n.start) | outside_bands(f, n)
+}
+
+// 14: the length is not allowed.
+pub(crate) fn bad_length(f: Figures, n: Notice) -> bool
+    ensures { λ r. ⌜ r ≡ badLength f n ⌝ }
+{
+    let hours = hours_of(n);
+    (hours < f.shortest) | (f.longest < hours)
+}
+
+// 15: it starts before the notice before it ends.
+pub(crate) fn starts_before(last: Notice, n: Notice) -> bool
+    ensures { λ r. ⌜ r ≡ startsBefore last n ⌝ }
+{
+    (n.day < last.day) | ((n.day == last.day) & (n.start < last.end))
+}
+
+// 16: the same day and band as the notice before it. The evening band starts where the second half of the day's hours does.
+pub(crate) fn same_band(last: Notice, n: Notice) -> bool
+    ensures { λ r. ⌜ r ≡ sameBand last n ⌝ }
+{
+    (last.day == n.day) & ((last.start < Profile::EVENING) == (n.start < Profile::EVENING))
+}
+
+// 18: the total hours pass the winter's limit with this notice. In 64 bits no sum wraps.
+pub(crate) fn over_limit(f: Figures, so: Sofar, n: Notice) -> bool
+    ensures { λ r. ⌜ r ≡ overLimit f so n ⌝ }
+{
+    let hours = hours_of(n);
+    (f.hours as u64) < (so.hours as u64) + (hours as u64)
+}
