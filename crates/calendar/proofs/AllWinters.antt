@@ -15,7 +15,7 @@ use Rattle.calendar.proofs.Promise.{winter-range}
 
 -- a test of winters that computes to true at each of the 89 holds of every winter
 pub in-winters : (f : ℕ → Bool) → T (allBelow 89 (λ k. f (2010 + k))) → (y : ℕ) → noWinter y ≡ false → T (f y)
-in-winters f t y w = let r = winter-range y w in from f 2010 89 t y (r .0) (omega arith)
+in-winters f t y w = let r = winter-range y .0 w in from f 2010 89 t y (r .0) (omega arith)
 
 -- Easter is in March or April, whatever the year
 pub easter-month : (y : ℕ) → (3 ≤ easterMonth y) × (easterMonth y ≤ 4)

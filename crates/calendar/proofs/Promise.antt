@@ -7,7 +7,7 @@ use mathlib.Core.Logic.{_⊎_, inl, inr, _↔_}
 use mathlib.Core.Path.{_≡_, refl, sym, ap, _∙_}
 use native.Mathlib.Omega.{arith}
 use lib.Dec.{T, leb, ltb, eqb, leb→le}
-use borrow.Author.Tests.{ltb-false, leb-true, leb-false, ltb-true, le-leb, lt-leb, lt-ltb, ne-eqb}
+use borrow.Author.Tests.{ltb-false, le-ltb, leb-true, leb-false, ltb-true, le-leb, lt-leb, lt-ltb, ne-eqb}
 use Rattle.laws.proofs.Below.{below, howMany}
 use Rattle.laws.proofs.Guards.{both, neither}
 use Rattle.laws.specs.Answer.{Answer, given, refusal, refuse}
@@ -23,11 +23,12 @@ use Rattle.calendar.proofs.Bounds.{easter-range}
 
 -- winters, N and the winter period
 
-pub winter-range : (y : ℕ) → noWinter y ≡ false → (2010 ≤ y) × (y ≤ 2098)
+pub winter-range : (y : ℕ) → (noWinter y ≡ false) ↔ ((2010 ≤ y) × (y ≤ 2098))
 unfolding noWinter
-winter-range y e =
-    let p = neither (ltb y 2010) (ltb 2098 y) e in
-    (ltb-false y 2010 (p .0), ltb-false 2098 y (p .1))
+winter-range y = (
+  λ e. let p = neither (ltb y 2010) (ltb 2098 y) e in (ltb-false y 2010 (p .0), ltb-false 2098 y (p .1)),
+  λ p. rw (le-ltb y 2010 (p .0), le-ltb 2098 y (p .1)),
+)
 
 pub days-two : (y : ℕ) → (days y ≡ 151) ⊎ (days y ≡ 152)
 unfolding days

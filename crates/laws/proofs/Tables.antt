@@ -80,6 +80,11 @@ module _ (place : ℕ) where
 
 -- one answer after another
 
+pub refuse-accepted : (b : Bool) (n place : ℕ) (rest : Answer) → 1 ≤ n → refuse b (refusalAt n place) rest ≡ accepted → (b ≡ false) × (rest ≡ accepted)
+unfolding refuse
+refuse-accepted true n place rest h e = not-accepted n place h e
+refuse-accepted false n place rest h e = (refl, e)
+
 pub else-stop : (a b : Answer) → isRefusal a ≡ true → a ≡ orElse a b
 unfolding orElse
 else-stop a b e = refused a b e

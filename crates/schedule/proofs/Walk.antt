@@ -117,7 +117,7 @@ module _ (w : ℕ) (f : Figures) (l : List ℕ) (n k : ℕ) where
   unfolding fromNotice
   from-done h = let e : n - k ≡ 0 = omega arith in rw e
 
-sofar-hours : (l : List ℕ) (k : ℕ) → sofarAt l k .hours ≡ hoursTo l k
+pub sofar-hours : (l : List ℕ) (k : ℕ) → sofarAt l k .hours ≡ hoursTo l k
 unfolding sofarAt hoursTo
 sofar-hours l zero = refl
 sofar-hours l (suc k) = refl

@@ -1,0 +1,172 @@
+-- Demand 2, both directions: a list is accepted under a profile exactly when it is lawful by the profile's figures.
+-- The walk accepts exactly when no notice is refused, by recursion on how many are left.
+-- Assumes nothing.
+use Prim.Native.Nat.{ℕ, zero, suc, _+_, _-_, _/_, _%_, _≤_, _<_}
+use mathlib.Core.Bool.{Bool, true, false, not}
+use mathlib.Core.List.{List}
+use mathlib.Core.Logic.{⊎-elim, inl, _↔_}
+use mathlib.Core.Path.{_≡_, refl, sym, ap, _∙_}
+use native.Mathlib.Nat.{eq-or-lt-of-le}
+use native.Mathlib.Omega.{arith}
+use lib.Dec.{ltb, eqb}
+use lib.ListN.{length}
+use borrow.Author.Tests.{eq-eqb, le-ltb}
+use Rattle.calendar.proofs.Promise.{winter-range}
+use Rattle.calendar.specs.Winters.{noWinter}
+use Rattle.laws.proofs.Refusals.{kept}
+use Rattle.laws.proofs.Tables.{refuse-accepted, else-go, else-accepted}
+use Rattle.laws.specs.Answer.{Answer}
+use Rattle.laws.specs.Table.{accepted, refusalAt, isRefusal, orElse}
+use Rattle.schedule.specs.ListCheck.{noticeAnswer, sofarAt, answerAt, fromNotice, badList, listAnswer, namedAnswer, checkAnswer}
+use Rattle.schedule.specs.Notices.{countOf, noNotice, noticeAt, hoursOf, hoursTo}
+use Rattle.schedule.specs.Profiles.{figuresOf, profileNumber, named}
+use Rattle.schedule.specs.declared.notices.Notice.{Notice}
+use Rattle.schedule.specs.declared.profiles.Figures.{Figures}
+use Rattle.schedule.specs.declared.profiles.Named.the-variants.{Is}
+use Rattle.schedule.specs.declared.profiles.Profile.{Profile}
+use Rattle.schedule.specs.declared.profiles.Profile.the-variants.{Credit, PowerOption}
+use Rattle.schedule.specs.declared.rules.Sofar.{Sofar}
+use Rattle.schedule.proofs.Lawful.{Sound, InOrder, Alike, Follows, period-iff, open-iff, week-iff, hours-iff, long-iff, order-iff, apart-iff, limit-iff}
+use Rattle.schedule.proofs.Walk.{Passed, passed, passed-accepted, sofar-hours, list-fits}
+
+-- a list that keeps every rule: every notice by itself, every notice against the one before it, and the hours together
+pub record Lawful (w : ℕ) (f : Figures) (l : List ℕ) : Type 0 where
+  pub winter : (2010 ≤ w) × (w ≤ 2098)
+  pub whole : length l % 3 ≡ 0
+  pub few : countOf l ≤ 100
+  pub each : (k : ℕ) → k < countOf l → Sound w f (noticeAt l k)
+  pub follows : (k : ℕ) → suc k < countOf l → Follows (noticeAt l k) (noticeAt l (suc k))
+  pub hours : hoursTo l (countOf l) ≤ f .hours
+
+-- hours only grow
+pub hours-grow : (l : List ℕ) (j i : ℕ) → i ≤ j → hoursTo l i ≤ hoursTo l j
+unfolding hoursTo
+hours-grow l zero i h = let e : i ≡ 0 = omega arith in rw e (omega arith)
+hours-grow l (suc j) i h =
+    ⊎-elim (λ (e : i ≡ suc j). rw e (omega arith)) (λ (e : i < suc j). omega (arith, hours-grow l j i (omega arith))) (eq-or-lt-of-le h)
+
+-- what a notice has passed, and what it keeps
+
+module _ (w : ℕ) (f : Figures) (so : Sofar) (n : Notice) where
+  pub passed-sound : Passed w f so n → Sound w f n
+  passed-sound t =
+      record {
+        period = period-iff w f n .0 (t .period);
+        open-day = open-iff w f n .0 (t .open-day);
+        week = week-iff w f n .0 (t .week);
+        some-hour = hours-iff w f n .0 (t .hours) .0;
+        band = hours-iff w f n .0 (t .hours) .1;
+        long = long-iff w f n .0 (t .long);
+      }
+
+  sound-passed : Sound w f n → Follows (so .last) n → so .hours + hoursOf n ≤ f .hours → Passed w f so n
+  sound-passed s o h =
+      record {
+        period = period-iff w f n .1 (s .period);
+        open-day = open-iff w f n .1 (s .open-day);
+        week = week-iff w f n .1 (s .week);
+        hours = hours-iff w f n .1 (s .some-hour, s .band);
+        long = long-iff w f n .1 (s .long);
+        order = order-iff (so .last) n .1 (o .order);
+        apart = apart-iff (so .last) n .1 (o .apart);
+        limit = limit-iff f so n .1 h;
+      }
+
+-- no notice stands before the first: it is earlier, and on another day
+first-follows : (w : ℕ) (f : Figures) (n : Notice) → Sound w f n → Follows noNotice n
+first-follows w f n s =
+    let p = s .period in
+    record { order = inl (omega arith); apart = λ (r : Alike noNotice n). let e : 0 ≡ n .day = r .0 in omega arith }
+
+module _ (w : ℕ) (f : Figures) (l : List ℕ) where
+  abbrev AllPassed : ℕ → Type 0
+  AllPassed n = (k : ℕ) → k < n → Passed w f (sofarAt l k) (noticeAt l k)
+
+  hours-at : (k : ℕ) → Passed w f (sofarAt l k) (noticeAt l k) → hoursTo l (suc k) ≤ f .hours
+  unfolding hoursTo
+  hours-at k t = rw (← sofar-hours l k) (limit-iff f (sofarAt l k) (noticeAt l k) .0 (t .limit))
+
+  all-hours : (n : ℕ) → AllPassed n → hoursTo l n ≤ f .hours
+  unfolding hoursTo
+  all-hours zero t = omega arith
+  all-hours (suc n) t = hours-at n (t n (omega arith))
+
+  follows-at : (k : ℕ) → Passed w f (sofarAt l (suc k)) (noticeAt l (suc k)) → Follows (noticeAt l k) (noticeAt l (suc k))
+  unfolding sofarAt
+  follows-at k t =
+      record { order = order-iff (noticeAt l k) (noticeAt l (suc k)) .0 (t .order); apart = apart-iff (noticeAt l k) (noticeAt l (suc k)) .0 (t .apart) }
+
+  passed-at : (n : ℕ) → ((k : ℕ) → k < n → Sound w f (noticeAt l k)) → ((k : ℕ) → suc k < n → Follows (noticeAt l k) (noticeAt l (suc k)))
+      → hoursTo l n ≤ f .hours → AllPassed n
+  unfolding sofarAt hoursTo
+  passed-at n each follows hours zero h =
+      sound-passed w f (sofarAt l zero) (noticeAt l zero) (each zero h) (first-follows w f (noticeAt l zero) (each zero h))
+      (omega (arith, hours-grow l n 1 (omega arith)))
+  passed-at n each follows hours (suc k) h =
+      sound-passed w f (sofarAt l (suc k)) (noticeAt l (suc k)) (each (suc k) h) (follows k h) (omega (arith, hours-grow l n (suc (suc k)) (omega arith)))
+
+-- the walk accepts exactly when every notice passes
+
+module _ (w : ℕ) (f : Figures) (l : List ℕ) where
+  pub walk-passes : (left k : ℕ) → fromNotice w f l left k ≡ accepted → (j : ℕ) → k ≤ j → j < k + left → isRefusal (answerAt w f l j) ≡ false
+  unfolding fromNotice
+  walk-passes zero k e j a b = absurd (omega arith)
+  walk-passes (suc left) k e j a b =
+      let p = else-accepted (answerAt w f l k) (fromNotice w f l left (suc k)) e in
+      ⊎-elim (λ (q : k ≡ j). rw q at (p .0)) (λ (q : k < j). walk-passes left (suc k) (p .1) j q (omega arith)) (eq-or-lt-of-le a)
+
+  pub passes-walk : (left k : ℕ) → ((j : ℕ) → k ≤ j → j < k + left → answerAt w f l j ≡ accepted) → fromNotice w f l left k ≡ accepted
+  unfolding fromNotice
+  passes-walk zero k g = refl
+  passes-walk (suc left) k g =
+      sym (else-go (answerAt w f l k) (fromNotice w f l left (suc k)) (ap isRefusal (g k (omega arith) (omega arith)))
+      (sym (passes-walk left (suc k) (λ j a b. g j (omega arith) (omega arith)))))
+
+  all-passed : (n : ℕ) → fromNotice w f l n 0 ≡ accepted → AllPassed w f l n
+  unfolding answerAt
+  all-passed n e k h = passed w f (sofarAt l k) (noticeAt l k) k (walk-passes n 0 e k (omega arith) (omega arith))
+
+  passed-all : (n : ℕ) → AllPassed w f l n → fromNotice w f l n 0 ≡ accepted
+  unfolding answerAt
+  passed-all n t = passes-walk n 0 (λ j a b. passed-accepted w f (sofarAt l j) (noticeAt l j) j (t j (omega arith)))
+
+-- the whole call
+
+whole-test : (n : ℕ) → n % 3 ≡ 0 → n / 3 ≤ 100 → badList n ≡ false
+unfolding badList
+whole-test n a b = rw (eq-eqb (n % 3) 0 a) (le-ltb 300 n (omega arith))
+
+module _ (w : ℕ) (f : Figures) (l : List ℕ) where
+  pub list-lawful : noWinter w ≡ false → listAnswer w f l ≡ accepted → Lawful w f l
+  unfolding listAnswer
+  list-lawful v e =
+      let p = refuse-accepted (badList (length l)) 4 0 (fromNotice w f l (countOf l) 0) (omega arith) e in
+      let fits = list-fits (length l) (p .0) in
+      let t = all-passed w f l (countOf l) (p .1) in
+      record {
+        winter = winter-range w .0 v;
+        whole = fits .0;
+        few = fits .1;
+        each = λ k h. passed-sound w f (sofarAt l k) (noticeAt l k) (t k h);
+        follows = λ k h. follows-at w f l k (t (suc k) h);
+        hours = all-hours w f l (countOf l) t;
+      }
+
+  lawful-list : Lawful w f l → listAnswer w f l ≡ accepted
+  unfolding listAnswer
+  lawful-list r =
+      sym (kept (refusalAt 4 0) (whole-test (length l) (r .whole) (r .few)) (sym (passed-all w f l (countOf l) (passed-at w f l (countOf l) (r .each) (r .follows) (r .hours)))))
+
+named-number : (p : Profile) → named (profileNumber p) ≡ Is p
+unfolding named
+named-number Credit = refl
+named-number PowerOption = refl
+
+-- DEMAND 2
+pub accepted-iff-lawful : (w : ℕ) (p : Profile) (l : List ℕ) → (checkAnswer w (profileNumber p) l ≡ accepted) ↔ Lawful w (figuresOf p) l
+unfolding checkAnswer
+accepted-iff-lawful w p l =
+    rw (named-number p) (
+      λ e. let q = refuse-accepted (noWinter w) 1 0 (listAnswer w (figuresOf p) l) (omega arith) e in list-lawful w (figuresOf p) l (q .0) (q .1),
+      λ r. sym (kept (refusalAt 1 0) (winter-range w .1 (r .winter)) (sym (lawful-list w (figuresOf p) l r))),
+    )
