@@ -2,31 +2,29 @@
 -- The walk accepts exactly when no notice is refused, by recursion on how many are left.
 -- Assumes nothing.
 use Prim.Native.Nat.{ℕ, zero, suc, _+_, _-_, _/_, _%_, _≤_, _<_}
-use mathlib.Core.Bool.{Bool, true, false, not}
+use mathlib.Core.Bool.{false}
 use mathlib.Core.List.{List}
 use mathlib.Core.Logic.{⊎-elim, inl, _↔_}
-use mathlib.Core.Path.{_≡_, refl, sym, ap, _∙_}
+use mathlib.Core.Path.{_≡_, refl, sym, ap}
 use native.Mathlib.Nat.{eq-or-lt-of-le}
 use native.Mathlib.Omega.{arith}
-use lib.Dec.{ltb, eqb}
 use lib.ListN.{length}
 use borrow.Author.Tests.{eq-eqb, le-ltb}
 use Rattle.calendar.proofs.Promise.{winter-range}
 use Rattle.calendar.specs.Winters.{noWinter}
 use Rattle.laws.proofs.Refusals.{kept}
 use Rattle.laws.proofs.Tables.{refuse-accepted, else-go, else-accepted}
-use Rattle.laws.specs.Answer.{Answer}
-use Rattle.laws.specs.Table.{accepted, refusalAt, isRefusal, orElse}
-use Rattle.schedule.specs.ListCheck.{noticeAnswer, sofarAt, answerAt, fromNotice, badList, listAnswer, namedAnswer, checkAnswer}
+use Rattle.laws.specs.Table.{accepted, refusalAt, isRefusal}
+use Rattle.schedule.specs.ListCheck.{sofarAt, answerAt, fromNotice, badList, listAnswer, checkAnswer}
 use Rattle.schedule.specs.Notices.{countOf, noNotice, noticeAt, hoursOf, hoursTo}
 use Rattle.schedule.specs.Profiles.{figuresOf, profileNumber, named}
 use Rattle.schedule.specs.declared.notices.Notice.{Notice}
 use Rattle.schedule.specs.declared.profiles.Figures.{Figures}
 use Rattle.schedule.specs.declared.profiles.Named.the-variants.{Is}
-use Rattle.schedule.specs.declared.profiles.Profile.{Profile}
 use Rattle.schedule.specs.declared.profiles.Profile.the-variants.{Credit, PowerOption}
+use Rattle.schedule.specs.declared.profiles.Profile.{Profile}
 use Rattle.schedule.specs.declared.rules.Sofar.{Sofar}
-use Rattle.schedule.proofs.Lawful.{Sound, InOrder, Alike, Follows, period-iff, open-iff, week-iff, hours-iff, long-iff, order-iff, apart-iff, limit-iff}
+use Rattle.schedule.proofs.Lawful.{Sound, Alike, Follows, period-iff, open-iff, week-iff, hours-iff, long-iff, order-iff, apart-iff, limit-iff}
 use Rattle.schedule.proofs.Walk.{Passed, passed, passed-accepted, sofar-hours, list-fits}
 
 -- a list that keeps every rule: every notice by itself, every notice against the one before it, and the hours together

@@ -2,13 +2,12 @@
 -- The invariant: what stands before notice k is what the list has before it, and the notices from k on give what the whole list gives.
 -- Assumes nothing.
 use Prim.Native.Nat.{ℕ, zero, suc, _+_, _-_, _/_, _%_, _≤_, _<_}
-use mathlib.Core.Bool.{Bool, true, false, not, _||_}
+use mathlib.Core.Bool.{true, false, not}
 use mathlib.Core.List.{List}
 use mathlib.Core.Path.{_≡_, refl, sym, ap, _∙_}
 use native.Mathlib.Numerals.{add-one}
 use native.Mathlib.Omega.{arith}
 use lib.Dec.{ltb, eqb}
-use lib.ListN.{length}
 use borrow.Author.Tests.{ltb-false, eqb-true, not-false}
 use Rattle.laws.proofs.Guards.{neither}
 use Rattle.laws.proofs.Tables.{Numbered, NoneBroken, accepted-none, none-accepted, not-refused, else-stop, else-go, in-parts}

@@ -15,8 +15,8 @@ use Rattle.schedule.specs.Profiles.{figuresOf, named}
 use Rattle.schedule.specs.Rules.{outsidePeriod, excludedDay, barredWeekend, badHours, badLength, startsBefore, sameBand, overLimit}
 use Rattle.schedule.specs.declared.notices.Notice.{Notice}
 use Rattle.schedule.specs.declared.profiles.Figures.{Figures}
-use Rattle.schedule.specs.declared.profiles.Named.{Named}
 use Rattle.schedule.specs.declared.profiles.Named.the-variants.{Is, NoProfile}
+use Rattle.schedule.specs.declared.profiles.Named.{Named}
 use Rattle.schedule.specs.declared.rules.Sofar.{Sofar}
 
 -- the rules of a notice by itself

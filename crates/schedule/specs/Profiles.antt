@@ -5,10 +5,10 @@ use Prim.Native.Nat.{ℕ}
 use mathlib.Core.Bool.{true, false, cond}
 use lib.Dec.{eqb}
 use Rattle.schedule.specs.declared.profiles.Figures.{Figures}
-use Rattle.schedule.specs.declared.profiles.Named.{Named}
 use Rattle.schedule.specs.declared.profiles.Named.the-variants.{Is, NoProfile}
-use Rattle.schedule.specs.declared.profiles.Profile.{Profile}
+use Rattle.schedule.specs.declared.profiles.Named.{Named}
 use Rattle.schedule.specs.declared.profiles.Profile.the-variants.{Credit, PowerOption}
+use Rattle.schedule.specs.declared.profiles.Profile.{Profile}
 
 -- bands 6-10 or 6-9 in the morning; weekends or none; hours of an event 1 to 4, or 3 or 4; 100 hours in a winter
 unfoldable pub figuresOf : Profile → Figures

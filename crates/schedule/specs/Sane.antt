@@ -4,8 +4,8 @@ use Prim.Native.Nat.{_≤_}
 use native.Mathlib.Omega.{arith}
 use Rattle.schedule.specs.Profiles.{figuresOf}
 use Rattle.schedule.specs.declared.profiles.Figures.{Figures}
-use Rattle.schedule.specs.declared.profiles.Profile.{Profile}
 use Rattle.schedule.specs.declared.profiles.Profile.the-variants.{Credit, PowerOption}
+use Rattle.schedule.specs.declared.profiles.Profile.{Profile}
 
 pub record Sane (f : Figures) : Type 0 where
   pub morning : f .morning ≤ 10

@@ -3,10 +3,10 @@
 use Prim.Native.Nat.{ℕ}
 use mathlib.Core.List.{[], _∷_}
 use Rattle.laws.specs.Answer.{Answer}
-use Rattle.schedule.specs.declared.verdicts.Rule.{Rule}
 use Rattle.schedule.specs.declared.verdicts.Rule.the-variants.{NoWinter, BadList, NoProfile, OutsidePeriod, ExcludedDay, Weekend, BadHours, BadLength, StartsBefore, SameBand, OverLimit}
-use Rattle.schedule.specs.declared.verdicts.Verdict.{Verdict}
+use Rattle.schedule.specs.declared.verdicts.Rule.{Rule}
 use Rattle.schedule.specs.declared.verdicts.Verdict.the-variants.{Accepted, Refused}
+use Rattle.schedule.specs.declared.verdicts.Verdict.{Verdict}
 
 abbrev pub ruleNumber : Rule → ℕ
 ruleNumber NoWinter = 1

@@ -1,6 +1,6 @@
 // The list check: whether the notices of a list can stand together under a profile.
 ghost use mathlib.Core.Path.{_≡_};
-ghost use Prim.Native.Nat.{_*_, _≤_};
+ghost use Prim.Native.Nat.{_≤_};
 ghost use lib.ListN.{length};
 ghost use Rattle.laws.specs.Table.{firstOf};
 ghost use Rattle.schedule.specs.Verdicts.{verdictPaper};

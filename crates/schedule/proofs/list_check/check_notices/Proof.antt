@@ -1,16 +1,12 @@
+-- `check_notices` walks the notices.
+-- The invariant, `Held`: what stands before notice k is what the list has before it, and the notices from k on give what all give.
+-- Assumes nothing.
 use Prim.Native.Nat.{_-_}
+use borrow.Author.Needs.{needs}
 use Rattle.laws.proofs.Guards.{found}
 use Rattle.schedule.proofs.Walk.{Held, held-start, held-stop, held-fits, held-next, held-done}
-use borrow.Author.Needs.{needs}
 use Rattle.schedule.proofs.list_check.check_notices.Statement.{statement}
 use Rattle.schedule.proofs.list_check.check_notices.Tie as tie
-use Rattle.schedule.proofs.list_check.check_notices.Reads as reads
-use Rattle.schedule.proofs.list_check.check_notices.Lts as lts
-use Rattle.schedule.proofs.list_check.after_notice.Reads as after-notice-reads
-use Rattle.schedule.proofs.list_check.nothing_before.Reads as nothing-before-reads
-use Rattle.schedule.proofs.list_check.notice_verdict.Reads as notice-verdict-reads
-use Rattle.schedule.proofs.notices.notice_at.Reads as notice-at-reads
-use Rattle.schedule.proofs.verdicts.is_refused.Reads as is-refused-reads
 
 abbrev Inv-loop : tie.InvT-loop
 Inv-loop winter f list count so₀ k₀ so k = Held winter f list count so k
@@ -18,54 +14,42 @@ Inv-loop winter f list count so₀ k₀ so k = Held winter f list count so k
 abbrev μ-loop : tie.MeasureT-loop
 μ-loop winter f list count so₀ k₀ so k = count - k
 
--- src/list_check.rt:109:9
 nothing-before-requires : tie.Need-nothing-before-requires Inv-loop μ-loop
 nothing-before-requires c κs = search needs
 
--- src/list_check.rt:111:5
 loop-holds : tie.Need-loop-holds Inv-loop μ-loop
 loop-holds c = held-start _ _ _ _ _ (c .nothing-before .ensures)
 
--- src/list_check.rt:112:13
 notice-at-requires : tie.Need-notice-at-requires Inv-loop μ-loop
 notice-at-requires c κs = search needs
 
--- src/list_check.rt:113:56
 cast-notice-verdict : tie.Need-cast-notice-verdict Inv-loop μ-loop
 cast-notice-verdict c = search needs
 
--- src/list_check.rt:113:13
 notice-verdict-requires : tie.Need-notice-verdict-requires Inv-loop μ-loop
 notice-verdict-requires c κs = search needs
 
--- src/list_check.rt:114:12
 is-refused-requires : tie.Need-is-refused-requires Inv-loop μ-loop
 is-refused-requires c κs = search needs
 
--- src/list_check.rt:115:13
 returns : tie.Need-returns Inv-loop μ-loop
 returns c =
     held-stop (c .before .before .before .before .before .loop .inv) (c .before .before .before .notice-at .ensures) (c .before .before .notice-verdict .ensures) (c .before .before .before .before .loop-test .taken) (found (c .before .is-refused .ensures) (c .if1 .taken))
 
--- src/list_check.rt:117:13
 after-notice-requires : tie.Need-after-notice-requires Inv-loop μ-loop
 after-notice-requires c κs =
     held-fits (c .before .before .before .before .before .loop .inv) (c .before .before .before .notice-at .ensures) (c .before .before .notice-verdict .ensures) (c .before .before .before .before .before .before .before .before .pre .0) (found (c .before .is-refused .ensures) (c .if1 .left))
 
--- src/list_check.rt:119:9
 add-k : tie.Need-add-k Inv-loop μ-loop
 add-k c = search needs
 
--- src/list_check.rt:111:5
 loop-less : tie.Need-loop-less Inv-loop μ-loop
 loop-less c = search needs
 
--- src/list_check.rt:111:5
 loop-again : tie.Need-loop-again Inv-loop μ-loop
 loop-again c =
     held-next (c .before .before .before .before .before .before .loop .inv) (c .before .before .before .before .notice-at .ensures) (c .before .before .before .notice-verdict .ensures) (c .before .before .before .before .before .before .before .before .before .pre .0) (c .before .before .before .before .before .loop-test .taken) (found (c .before .before .is-refused .ensures) (c .before .if1 .left)) (c .after-notice .ensures)
 
--- src/list_check.rt:105:1
 returns-2 : tie.Need-returns-2 Inv-loop μ-loop
 returns-2 c = held-done (c .before .loop .inv) (c .loop-test .left)
 

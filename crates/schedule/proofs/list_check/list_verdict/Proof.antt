@@ -1,43 +1,34 @@
+-- `list_verdict` tries rules 15, 16 and 18 in their order: one way out for each row of the table, and one past them all.
+-- Assumes nothing.
+use mathlib.Core.Path.{refl}
+use borrow.Author.Needs.{needs}
 use Rattle.laws.proofs.Guards.{found}
 use Rattle.laws.proofs.Refusals.{refused, kept}
 use Rattle.laws.specs.Table.{firstOf}
-use mathlib.Core.Path.{refl}
 use Rattle.schedule.specs.ListCheck.{listRows}
-use borrow.Author.Needs.{needs}
 use Rattle.schedule.proofs.list_check.list_verdict.Statement.{statement}
 use Rattle.schedule.proofs.list_check.list_verdict.Tie as tie
-use Rattle.schedule.proofs.list_check.list_verdict.Reads as reads
-use Rattle.schedule.proofs.list_check.list_verdict.Lts as lts
-use Rattle.schedule.proofs.rules.over_limit.Reads as over-limit-reads
-use Rattle.schedule.proofs.rules.same_band.Reads as same-band-reads
-use Rattle.schedule.proofs.rules.starts_before.Reads as starts-before-reads
 
--- src/list_check.rt:57:8
 starts-before-requires : tie.Need-starts-before-requires
 starts-before-requires c κs = search needs
 
--- src/list_check.rt:58:9
 returns : tie.Need-returns
 unfolding firstOf listRows
 returns c =
     refused _ _ (found (c .before .starts-before .ensures) (c .if1 .taken))
 
--- src/list_check.rt:60:8
 same-band-requires : tie.Need-same-band-requires
 same-band-requires c κs = search needs
 
--- src/list_check.rt:61:9
 returns-2 : tie.Need-returns-2
 unfolding firstOf listRows
 returns-2 c =
     kept _ (found (c .before .before .before .starts-before .ensures) (c .before .before .if1 .left))
     (refused _ _ (found (c .before .same-band .ensures) (c .if2 .taken)))
 
--- src/list_check.rt:63:8
 over-limit-requires : tie.Need-over-limit-requires
 over-limit-requires c κs = search needs
 
--- src/list_check.rt:64:9
 returns-3 : tie.Need-returns-3
 unfolding firstOf listRows
 returns-3 c =
@@ -45,7 +36,6 @@ returns-3 c =
     (kept _ (found (c .before .before .before .same-band .ensures) (c .before .before .if2 .left))
     (refused _ _ (found (c .before .over-limit .ensures) (c .if3 .taken))))
 
--- src/list_check.rt:53:1
 returns-4 : tie.Need-returns-4
 unfolding firstOf listRows
 returns-4 c =

@@ -1,32 +1,24 @@
+-- `notice_verdict` answers by the notice's own rules, else by those of the list.
+-- Assumes nothing.
+use borrow.Author.Needs.{needs}
 use Rattle.laws.proofs.Guards.{found}
 use Rattle.schedule.proofs.Walk.{notice-stop, notice-go}
-use borrow.Author.Needs.{needs}
 use Rattle.schedule.proofs.list_check.notice_verdict.Statement.{statement}
 use Rattle.schedule.proofs.list_check.notice_verdict.Tie as tie
-use Rattle.schedule.proofs.list_check.notice_verdict.Reads as reads
-use Rattle.schedule.proofs.list_check.notice_verdict.Lts as lts
-use Rattle.schedule.proofs.list_check.list_verdict.Reads as list-verdict-reads
-use Rattle.schedule.proofs.list_check.own_verdict.Reads as own-verdict-reads
-use Rattle.schedule.proofs.verdicts.is_refused.Reads as is-refused-reads
 
--- src/list_check.rt:73:9
 own-verdict-requires : tie.Need-own-verdict-requires
 own-verdict-requires c κs = search needs
 
--- src/list_check.rt:74:8
 is-refused-requires : tie.Need-is-refused-requires
 is-refused-requires c κs = search needs
 
--- src/list_check.rt:75:9
 returns : tie.Need-returns
 returns c =
     notice-stop _ _ _ _ _ (c .before .before .own-verdict .ensures) (found (c .before .is-refused .ensures) (c .if1 .taken))
 
--- src/list_check.rt:77:5
 list-verdict-requires : tie.Need-list-verdict-requires
 list-verdict-requires c κs = search needs
 
--- src/list_check.rt:70:1
 returns-2 : tie.Need-returns-2
 returns-2 c =
     notice-go _ _ _ _ _ (c .before .before .before .own-verdict .ensures) (found (c .before .before .is-refused .ensures) (c .before .if1 .left)) (c .list-verdict .ensures)

@@ -1,22 +1,19 @@
+-- `profile_named` knows 1 and 2, and no other number.
+-- Assumes nothing.
 use native.Mathlib.Omega.{arith}
+use borrow.Author.Tests.{ne-eqb}
 use Rattle.schedule.specs.Profiles.{named}
-use borrow.Author.Tests.{eq-eqb, ne-eqb}
 use Rattle.schedule.proofs.profiles.profile_named.Statement.{statement}
 use Rattle.schedule.proofs.profiles.profile_named.Tie as tie
-use Rattle.schedule.proofs.profiles.profile_named.Reads as reads
-use Rattle.schedule.proofs.profiles.profile_named.Lts as lts
 
--- src/profiles.rt:64:1
 returns : tie.Need-returns
 unfolding named
 returns c = rw (c .match .keys1)
 
--- src/profiles.rt:64:1
 returns-2 : tie.Need-returns-2
 unfolding named
 returns-2 c = rw (c .match .keys2)
 
--- src/profiles.rt:64:1
 returns-3 : tie.Need-returns-3
 unfolding named
 returns-3 c = rw (ne-eqb (c .before .args .number) 1 (λ h. omega arith), ne-eqb (c .before .args .number) 2 (λ h. omega arith))

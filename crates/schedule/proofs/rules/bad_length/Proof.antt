@@ -1,16 +1,13 @@
-use Rattle.schedule.specs.Rules.{badLength}
+-- `bad_length` compares the hours with the shortest and the longest.
+-- Assumes nothing.
 use borrow.Author.Needs.{needs}
+use Rattle.schedule.specs.Rules.{badLength}
 use Rattle.schedule.proofs.rules.bad_length.Statement.{statement}
 use Rattle.schedule.proofs.rules.bad_length.Tie as tie
-use Rattle.schedule.proofs.rules.bad_length.Reads as reads
-use Rattle.schedule.proofs.rules.bad_length.Lts as lts
-use Rattle.schedule.proofs.notices.hours_of.Reads as hours-of-reads
 
--- src/rules.rt:55:9
 hours-of-requires : tie.Need-hours-of-requires
 hours-of-requires c κs = search needs
 
--- src/rules.rt:52:1
 returns : tie.Need-returns
 unfolding badLength
 returns c = rw (c .before .before .hours-of .ensures)

@@ -1,11 +1,10 @@
-use Rattle.schedule.specs.Rules.{outsideBands}
+-- `outside_bands` is the definition: its test is the definition's, word for word.
+-- Assumes nothing.
 use mathlib.Core.Path.{refl}
+use Rattle.schedule.specs.Rules.{outsideBands}
 use Rattle.schedule.proofs.rules.outside_bands.Statement.{statement}
 use Rattle.schedule.proofs.rules.outside_bands.Tie as tie
-use Rattle.schedule.proofs.rules.outside_bands.Reads as reads
-use Rattle.schedule.proofs.rules.outside_bands.Lts as lts
 
--- src/rules.rt:37:1
 returns : tie.Need-returns
 unfolding outsideBands
 returns c = refl

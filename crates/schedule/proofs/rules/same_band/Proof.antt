@@ -1,11 +1,10 @@
-use Rattle.schedule.specs.Rules.{sameBand}
+-- `same_band` is the definition: its test is the definition's, word for word.
+-- Assumes nothing.
 use mathlib.Core.Path.{refl}
+use Rattle.schedule.specs.Rules.{sameBand}
 use Rattle.schedule.proofs.rules.same_band.Statement.{statement}
 use Rattle.schedule.proofs.rules.same_band.Tie as tie
-use Rattle.schedule.proofs.rules.same_band.Reads as reads
-use Rattle.schedule.proofs.rules.same_band.Lts as lts
 
--- src/rules.rt:67:1
 returns : tie.Need-returns
 unfolding sameBand
 returns c = refl

@@ -1,11 +1,10 @@
-use Rattle.schedule.specs.Rules.{startsBefore}
+-- `starts_before` is the definition: its test is the definition's, word for word.
+-- Assumes nothing.
 use mathlib.Core.Path.{refl}
+use Rattle.schedule.specs.Rules.{startsBefore}
 use Rattle.schedule.proofs.rules.starts_before.Statement.{statement}
 use Rattle.schedule.proofs.rules.starts_before.Tie as tie
-use Rattle.schedule.proofs.rules.starts_before.Reads as reads
-use Rattle.schedule.proofs.rules.starts_before.Lts as lts
 
--- src/rules.rt:60:1
 returns : tie.Need-returns
 unfolding startsBefore
 returns c = refl

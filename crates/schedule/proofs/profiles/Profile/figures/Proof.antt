@@ -1,24 +1,20 @@
-use Rattle.schedule.specs.Profiles.{figuresOf}
+-- `figures` gives the column of the profile.
+-- Assumes nothing.
 use borrow.Author.Needs.{needs}
+use Rattle.schedule.specs.Profiles.{figuresOf}
 use Rattle.schedule.proofs.profiles.Profile.figures.Statement.{statement}
 use Rattle.schedule.proofs.profiles.Profile.figures.Tie as tie
-use Rattle.schedule.proofs.profiles.Profile.figures.Reads as reads
-use Rattle.schedule.proofs.profiles.Profile.figures.Lts as lts
 
--- src/profiles.rt:51:32
 enum-told : tie.Need-enum-told
 enum-told c = search needs
 
--- src/profiles.rt:52:37
 enum-told-2 : tie.Need-enum-told-2
 enum-told-2 c = search needs
 
--- src/profiles.rt:47:5
 returns : tie.Need-returns
 unfolding figuresOf
 returns c = rw (c .enum-told .given .1)
 
--- src/profiles.rt:47:5
 returns-2 : tie.Need-returns-2
 unfolding figuresOf
 returns-2 c = rw (c .enum-told2 .given .1)
