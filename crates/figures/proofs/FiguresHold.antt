@@ -6,12 +6,19 @@ use mathlib.Core.Path.{_≡_, refl}
 use Rattle.calendar.specs.Answers.{easterSunday}
 use Rattle.calendar.specs.Easter.{noEasterYear, easterT, easterInBook}
 use Rattle.calendar.specs.Excluded.{among, goodFriday, easterMonday, excluded}
-use Rattle.calendar.specs.Winters.{leap, days, noDay}
+use Rattle.calendar.specs.Weekdays.{firstWeekday, weekday, weekend}
+use Rattle.calendar.specs.Winters.{noWinter, leap, days, noDay, inPeriod}
 use Rattle.laws.specs.Answer.{refuse}
+use Rattle.laws.specs.Table.{firstOf, orElse}
+use Rattle.schedule.specs.ListCheck.{ownRows, listRows, noticeRows, noticeAnswer, sofarAt, answerAt, fromNotice, badList, listAnswer, checkAnswer}
+use Rattle.schedule.specs.Notices.{noticeAt, hoursOf, hoursTo}
+use Rattle.schedule.specs.Profiles.{figuresOf, named}
+use Rattle.schedule.specs.Rules.{outsidePeriod, excludedDay, barredWeekend, outsideBands, badHours, badLength, startsBefore, sameBand, overLimit}
 use Rattle.figures.specs.CalendarFigures.{alsoFrom, alsoExcluded, calendarFigures}
 use Rattle.figures.specs.Figure.{Figure}
 use Rattle.figures.specs.Figures.{figures}
+use Rattle.figures.specs.ScheduleFigures.{mornings, hundredHours, scheduleFigures}
 
 pub figures-hold : map (λ (f : Figure). f .paper) figures ≡ map (λ (f : Figure). f .computed) figures
-unfolding calendarFigures alsoExcluded alsoFrom easterSunday refuse noEasterYear easterT easterInBook among goodFriday easterMonday excluded leap days noDay
+unfolding calendarFigures alsoExcluded alsoFrom easterSunday refuse noEasterYear easterT easterInBook among goodFriday easterMonday excluded leap days noDay scheduleFigures mornings hundredHours checkAnswer listAnswer badList fromNotice answerAt noticeAnswer noticeRows ownRows listRows firstOf orElse sofarAt noticeAt hoursOf hoursTo named figuresOf outsidePeriod excludedDay barredWeekend outsideBands badHours badLength startsBefore sameBand overLimit noWinter inPeriod firstWeekday weekday weekend
 figures-hold = refl

@@ -1,8 +1,9 @@
--- All figures of document 01 that are marked P, as one list.
+-- All figures of document 01 that are marked P, as one list, with those beside them that lists and readings can show.
 -- Assumes nothing.
-use mathlib.Core.List.{List}
+use mathlib.Core.List.{List, _++_}
 use Rattle.figures.specs.CalendarFigures.{calendarFigures}
 use Rattle.figures.specs.Figure.{Figure}
+use Rattle.figures.specs.ScheduleFigures.{scheduleFigures}
 
 abbrev pub figures : List Figure
-figures = calendarFigures
+figures = calendarFigures ++ scheduleFigures

@@ -1,3 +1,4 @@
 pub mod Figure
 pub mod CalendarFigures
+pub mod ScheduleFigures
 pub mod Figures

@@ -1,5 +1,6 @@
 -- `check` answers 1 for no winter, then 5 for no profile, else by the list; the figures of a profile are sane.
 -- Assumes nothing.
+use Rattle.schedule.proofs.RuleLaws.{no-profile, of-profile}
 use borrow.Author.Needs.{needs}
 use Rattle.calendar.proofs.Promise.{no-winter, is-winter}
 use Rattle.laws.proofs.Refusals.{refused, kept}
@@ -32,7 +33,9 @@ enum-told-3 c = search needs
 
 returns-2 : tie.Need-returns-2
 unfolding checkAnswer
-returns-2 c = kept _ (is-winter _ _ _ (c .before .before .before .enum-told .given .1) (c .before .before .before .before .before .winter-days .ensures)) (rw (← c .before .before .profile-named .ensures, c .enum-told3 .given .1))
+returns-2 c = 
+    kept _ (is-winter _ _ _ (c .before .before .before .enum-told .given .1) (c .before .before .before .before .before .winter-days .ensures))
+    (no-profile _ _ _ _ (c .before .before .profile-named .ensures) (c .enum-told3 .given .1))
 
 figures-requires : tie.Need-figures-requires
 figures-requires c κs = search needs
@@ -42,7 +45,9 @@ check-list-requires c κs = rw (c .figures .ensures) (sane _)
 
 returns-3 : tie.Need-returns-3
 unfolding checkAnswer
-returns-3 c = kept _ (is-winter _ _ _ (c .before .before .before .before .before .before .enum-told .given .1) (c .before .before .before .before .before .before .before .before .winter-days .ensures)) (rw (← c .before .before .before .before .before .profile-named .ensures, c .before .before .before .named .given .1, ← c .before .figures .ensures) (c .check-list .ensures))
+returns-3 c = 
+    kept _ (is-winter _ _ _ (c .before .before .before .before .before .before .enum-told .given .1) (c .before .before .before .before .before .before .before .before .winter-days .ensures))
+    (of-profile _ _ _ _ _ _ _ (c .before .before .before .before .before .profile-named .ensures) (c .before .before .before .named .given .1) (c .before .figures .ensures) (c .check-list .ensures))
 
 pub check-spec : {M : Type 1} → statement M
 check-spec =

@@ -1,5 +1,6 @@
 -- `bad_length` compares the hours with the shortest and the longest.
 -- Assumes nothing.
+use Rattle.schedule.proofs.RuleLaws.{length-is}
 use borrow.Author.Needs.{needs}
 use Rattle.schedule.specs.Rules.{badLength}
 use Rattle.schedule.proofs.rules.bad_length.Statement.{statement}
@@ -9,8 +10,7 @@ hours-of-requires : tie.Need-hours-of-requires
 hours-of-requires c κs = search needs
 
 returns : tie.Need-returns
-unfolding badLength
-returns c = rw (c .before .before .hours-of .ensures)
+returns c = length-is _ _ _ (c .before .before .hours-of .ensures)
 
 pub bad-length-spec : {M : Type 1} → statement M
 bad-length-spec = tie.close (tie.spec hours-of-requires returns)

@@ -1,5 +1,6 @@
 -- `over_limit` compares the sum with the limit; in 64 bits it does not wrap.
 -- Assumes nothing.
+use Rattle.schedule.proofs.RuleLaws.{limit-is}
 use borrow.Author.Needs.{needs}
 use Rattle.schedule.specs.Rules.{overLimit}
 use Rattle.schedule.proofs.rules.over_limit.Statement.{statement}
@@ -21,8 +22,7 @@ add-result : tie.Need-add-result
 add-result c = search needs
 
 returns : tie.Need-returns
-unfolding overLimit
-returns c = rw (c .before .before .hours-of .ensures)
+returns c = limit-is _ _ _ _ (c .before .before .hours-of .ensures)
 
 pub over-limit-spec : {M : Type 1} → statement M
 over-limit-spec =
