@@ -1,26 +1,21 @@
 """Compares the calendar's program with the second program, query by query.
 
-The program calendar_answers and second/winters.py are asked the same queries and must
+The program answers and second/winters.py are asked the same queries and must
 print the same lines. Document 01's own figures are looked for in the program's output.
 The last line printed is "N passed, M failed".
 """
 
 import random
-import subprocess
 import sys
 from collections import Counter
 from datetime import date
 from functools import partial
-from itertools import product, zip_longest
-from pathlib import Path
+from itertools import product
 
+from harness import Failure, ask_layer, check_same_lines, run_tests
 from second import winters
 
-ROOT = Path(__file__).resolve().parent.parent
-PROGRAM = "calendar_answers"
-SECONDS_ALLOWED = 60
-
-SHOWN_DIFFERENCES = 5
+LAYER = "calendar"
 
 # What each call can give as its first number. The readings start with their length, and
 # the tests with whether the day is in the winter period, or `-` where there is no such day.
@@ -61,33 +56,7 @@ SEED = 2026
 RANDOM_QUERIES = 20_000
 
 
-class Failure(Exception):
-    """A test that failed; the text says why."""
-
-
 # The program.
-
-
-def run_program(text):
-    """The lines the program prints for this input."""
-    try:
-        run = subprocess.run(
-            [ROOT / "scripts" / "program", PROGRAM],
-            input=text, capture_output=True, timeout=SECONDS_ALLOWED,
-        )
-    except OSError as error:
-        raise Failure(f"cannot run {PROGRAM}: {error.strerror}") from None
-    except subprocess.TimeoutExpired:
-        raise Failure(f"{PROGRAM} ran longer than {SECONDS_ALLOWED} seconds") from None
-    if run.returncode < 0:
-        raise Failure(f"{PROGRAM} was ended by signal {-run.returncode}")
-    if run.returncode > 0:
-        reason = run.stderr.decode(errors="backslashreplace").strip()
-        raise Failure(f"{PROGRAM} ended with exit status {run.returncode}: {reason}")
-    *lines, rest = run.stdout.decode("ascii", "backslashreplace").split("\n")
-    if rest:
-        raise Failure(f"the last line is not ended by byte 10: {rest}")
-    return lines
 
 
 def written(queries):
@@ -96,7 +65,7 @@ def written(queries):
 
 
 def ask(queries):
-    return run_program(written(queries))
+    return ask_layer(LAYER, written(queries))
 
 
 def fields(line):
@@ -199,15 +168,7 @@ def check_group(queries, tally):
         for line in said
         for call, answer in fields(line).items()
     )
-    right = [winters.line(*query) for query in queries]
-    rows = zip_longest(queries, said, right)
-    differences = [row for row in rows if row[1] != row[2]]
-    if differences:
-        shown = [
-            f"\n  query          {query}\n  program        {one}\n  second program {other}"
-            for query, one, other in differences[:SHOWN_DIFFERENCES]
-        ]
-        raise Failure(f"lines that differ: {len(differences)}; the first:{''.join(shown)}")
+    check_same_lines(queries, said, [winters.line(*query) for query in queries])
 
 
 def check_every_number(tally):
@@ -253,7 +214,7 @@ def check_excluded_days(winter, easter_days):
 
 
 def check_empty_input():
-    said = run_program(b"")
+    said = ask_layer(LAYER, b"")
     if said:
         raise Failure(f"the program printed {said}")
 
@@ -261,7 +222,7 @@ def check_empty_input():
 def check_short_last_piece():
     """A piece shorter than a query changes nothing, alone or after a whole query."""
     for whole, length in product(([], [(2026, 38, 3624)]), (1, 16, 32)):
-        said = run_program(written(whole) + written([(2023, 149, 3648)])[:length])
+        said = ask_layer(LAYER, written(whole) + written([(2023, 149, 3648)])[:length])
         right = [winters.line(*query) for query in whole]
         if said != right:
             raise Failure(f"{length} bytes after {len(whole)} queries: {said}, not {right}")
@@ -308,20 +269,5 @@ def all_tests():
     ]
 
 
-def main():
-    passed = failed = 0
-    for name, check in all_tests():
-        try:
-            check()
-        except Failure as failure:
-            failed += 1
-            print(f"FAILED  {name}: {failure}")
-        else:
-            passed += 1
-            print(f"passed  {name}")
-    print(f"{passed} passed, {failed} failed")
-    return 0 if passed > 0 and failed == 0 else 1
-
-
 if __name__ == "__main__":
-    sys.exit(main())
+    sys.exit(run_tests(all_tests()))

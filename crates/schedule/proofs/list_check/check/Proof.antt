@@ -33,7 +33,7 @@ enum-told-3 c = search needs
 
 returns-2 : tie.Need-returns-2
 unfolding checkAnswer
-returns-2 c = 
+returns-2 c =
     kept _ (is-winter _ _ _ (c .before .before .before .enum-told .given .1) (c .before .before .before .before .before .winter-days .ensures))
     (no-profile _ _ _ _ (c .before .before .profile-named .ensures) (c .enum-told3 .given .1))
 
@@ -45,7 +45,7 @@ check-list-requires c κs = rw (c .figures .ensures) (sane _)
 
 returns-3 : tie.Need-returns-3
 unfolding checkAnswer
-returns-3 c = 
+returns-3 c =
     kept _ (is-winter _ _ _ (c .before .before .before .before .before .before .enum-told .given .1) (c .before .before .before .before .before .before .before .before .winter-days .ensures))
     (of-profile _ _ _ _ _ _ _ (c .before .before .before .before .before .profile-named .ensures) (c .before .before .before .named .given .1) (c .before .figures .ensures) (c .check-list .ensures))
 

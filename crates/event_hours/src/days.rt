@@ -1,0 +1,40 @@
+// The event hours of all days, filled from the notices of a list.
+ghost use mathlib.Core.Path.{_≡_};
+ghost use Rattle.event_hours.specs.Days.{marksNone, withHours, masksOf};
+use crate::hours::hours_mask;
+use schedule::Notice;
+
+// Whether a notice names no hours of a day that a book can have. An accepted list has no such notice, but any list may be lent.
+fn marks_none(n: Notice) -> bool
+    ensures { λ r. ⌜ r ≡ marksNone n ⌝ }
+{
+    (152 <= n.day) | (n.end <= n.start) | (24 < n.end)
+}
+
+// The masks with the hours of one notice more.
+fn with_hours(masks: [u32; 152], n: Notice) -> [u32; 152]
+    ensures { λ r. ⌜ r ≡ withHours masks n ⌝ }
+{
+    if marks_none(n) {
+        return masks;
+    }
+    let mut more = masks;
+    let day = n.day as usize;
+    more[day] |= hours_mask(n.start, n.end);
+    more
+}
+
+// The event hours of all days, all zero at first and filled from the notices of a list, whether or not they stand.
+pub fn masks_of(list: &[u32]) -> [u32; 152]
+    ensures { λ r. ⌜ r ≡ masksOf (now (list .entry)) ⌝ }
+{
+    let mut masks = [0u32; 152];
+    let mut k: usize = 0;
+    while k < list.len() / 3 {
+        let n = schedule::notice_at(list, k);
+        let next = with_hours(masks, n);
+        masks = next;
+        k += 1;
+    }
+    masks
+}

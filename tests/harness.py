@@ -1,0 +1,76 @@
+"""What the test files share: failing, running a program, comparing lines, the last line.
+
+A test is its name and a check. The check fails by raising Failure.
+"""
+
+import subprocess
+from itertools import zip_longest
+from pathlib import Path
+
+ROOT = Path(__file__).resolve().parent.parent
+SECONDS_ALLOWED = 60
+
+# The program `answers` is asked about one layer at a time, by its number.
+LAYERS = {"calendar": 1, "schedule": 2}
+
+SHOWN_DIFFERENCES = 5
+
+
+class Failure(Exception):
+    """A test that failed; the text says why."""
+
+
+def run_program(program, text):
+    """The lines the program prints for this input."""
+    try:
+        run = subprocess.run(
+            [ROOT / "scripts" / "program", program],
+            input=text, capture_output=True, timeout=SECONDS_ALLOWED,
+        )
+    except OSError as error:
+        raise Failure(f"cannot run {program}: {error.strerror}") from None
+    except subprocess.TimeoutExpired:
+        raise Failure(f"{program} ran longer than {SECONDS_ALLOWED} seconds") from None
+    if run.returncode < 0:
+        raise Failure(f"{program} was ended by signal {-run.returncode}")
+    if run.returncode > 0:
+        reason = run.stderr.decode(errors="backslashreplace").strip()
+        raise Failure(f"{program} ended with exit status {run.returncode}: {reason}")
+    *lines, rest = run.stdout.decode("ascii", "backslashreplace").split("\n")
+    if rest:
+        raise Failure(f"the last line is not ended by byte 10: {rest}")
+    return lines
+
+
+def ask_layer(layer, text):
+    """The lines that `answers` prints for these queries on a layer."""
+    return run_program("answers", b"%010d\n" % LAYERS[layer] + text)
+
+
+def check_same_lines(queries, said, right):
+    """The program said what the second program says, line by line."""
+    rows = zip_longest(queries, said, right)
+    differences = [row for row in rows if row[1] != row[2]]
+    if differences:
+        shown = [
+            f"\n  query          {query}\n  program        {one}\n  second program {other}"
+            for query, one, other in differences[:SHOWN_DIFFERENCES]
+        ]
+        raise Failure(f"lines that differ: {len(differences)}; the first:{''.join(shown)}")
+
+
+def run_tests(tests):
+    """Runs the tests in their order and gives the exit status of the test file. The last
+    line printed is "N passed, M failed"."""
+    passed = failed = 0
+    for name, check in tests:
+        try:
+            check()
+        except Failure as failure:
+            failed += 1
+            print(f"FAILED  {name}: {failure}")
+        else:
+            passed += 1
+            print(f"passed  {name}")
+    print(f"{passed} passed, {failed} failed")
+    return 0 if passed > 0 and failed == 0 else 1
