@@ -47,6 +47,16 @@ def ask_layer(layer, text):
     return run_program("answers", b"%010d\n" % LAYERS[layer] + text)
 
 
+def check_short_input(layer, whole, right, piece, lengths):
+    """No input prints nothing, and a last piece shorter than a query changes nothing, alone
+    or after a whole query, whose line is `right`."""
+    for before, lines in ((b"", []), (whole, [right])):
+        for length in (0, *lengths):
+            said = ask_layer(layer, before + piece[:length])
+            if said != lines:
+                raise Failure(f"{length} bytes after {len(lines)} queries: {said}, not {lines}")
+
+
 def check_same_lines(queries, said, right):
     """The program said what the second program says, line by line."""
     rows = zip_longest(queries, said, right)
