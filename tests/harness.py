@@ -11,7 +11,7 @@ ROOT = Path(__file__).resolve().parent.parent
 SECONDS_ALLOWED = 60
 
 # The program `answers` is asked about one layer at a time, by its number.
-LAYERS = {"calendar": 1, "schedule": 2}
+LAYERS = {"calendar": 1, "schedule": 2, "energy": 3}
 
 SHOWN_DIFFERENCES = 5
 

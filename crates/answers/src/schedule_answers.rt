@@ -1,10 +1,8 @@
 // Queries on the list check: three numbers, winter, profile and count, and then the numbers of a list. A line has the number and the
 // place of the refusal; of an accepted list also the event hours of each day that has any, as DAY:MASK, and each notice's event as it
 // comes back from them, as START+LENGTH.
-ghost use mathlib.Core.Path.{_≡_};
-ghost use Prim.Native.Nat.{_≤_};
-ghost use lib.ListN.{length};
 use crate::reading::number;
+use crate::reading::read_list;
 use crate::writing::put;
 use crate::writing::put_number;
 use crate::writing::put_value;
@@ -31,23 +29,6 @@ pub(crate) fn answer_all() {
             &list[0..count],
         );
     }
-}
-
-// Reads the first count numbers of the list; false where they are cut short.
-fn read_list(list: &mut [u32], count: usize) -> bool
-    requires { ⌜ count ≤ length (now list) ⌝ }
-    ensures { λ r. ⌜ length (now (list .exit)) ≡ length (now (list .entry)) ⌝ }
-{
-    let mut digits = [0u8; 11];
-    let mut i: usize = 0;
-    while i < count {
-        if io::read_full(STDIN_FILENO, &mut digits) < 11 {
-            return false;
-        }
-        list[i] = number(&digits[0..10]);
-        i += 1;
-    }
-    true
 }
 
 // The line of one query.

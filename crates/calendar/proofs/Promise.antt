@@ -1,12 +1,13 @@
 -- The calendar's promise: what the crates above may count on, so that they open none of its definitions.
 -- Assumes nothing.
 use Prim.Native.Nat.{ℕ, _+_, _%_, _≤_, _<_}
-use mathlib.Core.Bool.{Bool, true, false, not, cond, _&&_, _||_}
+use mathlib.Core.Bool.{Bool, true, false, not, cond, _&&_, _||_, true≢false}
 use mathlib.Core.List.{[], _∷_, map}
 use mathlib.Core.Logic.{_⊎_, inl, inr, _↔_}
 use mathlib.Core.Path.{_≡_, refl, sym, ap, _∙_}
 use native.Mathlib.Omega.{arith}
 use lib.Dec.{T, leb, ltb, eqb, leb→le}
+use lib.ListN.{getD}
 use borrow.Author.Tests.{ltb-false, le-ltb, leb-true, leb-false, ltb-true, le-leb, lt-leb, lt-ltb, ne-eqb}
 use Rattle.laws.proofs.Below.{below, howMany}
 use Rattle.laws.proofs.Guards.{both, neither}
@@ -54,6 +55,14 @@ is-winter y n r q e = by (noWinter y) (ap (λ (r : Days). daysPaper r .number) (
     by : (b : Bool) → 0 ≡ refuse b (refusal 1) (given (days y ∷ [])) .number → b ≡ false
     by true e = absurd (omega arith)
     by false e = refl
+
+pub winter-count : (y n : ℕ) (r : Days) → r ≡ Are n → daysPaper r ≡ winterDays y → n ≡ days y
+unfolding winterDays refuse
+winter-count y n r q e = by (noWinter y) (ap (λ (r : Days). getD (daysPaper r .values) 0 0) (sym q) ∙ ap (λ (a : Answer). getD (a .values) 0 0) e) (is-winter y n r q e)
+  where
+    by : (b : Bool) → n ≡ getD (refuse b (refusal 1) (given (days y ∷ [])) .values) 0 0 → b ≡ false → n ≡ days y
+    by true e w = absurd (true≢false w)
+    by false e w = e
 
 pub book-day : (y d : ℕ) → noDay y d ≡ false → d < days y
 unfolding noDay

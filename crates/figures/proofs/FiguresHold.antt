@@ -8,6 +8,15 @@ use Rattle.calendar.specs.Easter.{noEasterYear, easterT, easterInBook}
 use Rattle.calendar.specs.Excluded.{among, goodFriday, easterMonday, excluded}
 use Rattle.calendar.specs.Weekdays.{firstWeekday, weekday, weekend}
 use Rattle.calendar.specs.Winters.{noWinter, leap, days, noDay, inPeriod}
+use Rattle.energy.specs.Asked.{hoursFrom, warmUp, askedBy, placesOn, needed}
+use Rattle.energy.specs.Energy.{sumOver, trimmedAt, energyOf}
+use Rattle.energy.specs.Line.{lineOf, eventAnswer}
+use Rattle.energy.specs.Readings.{faultOf, firstFault}
+use Rattle.energy.specs.ReferenceDays.{serves, before, referenceDays}
+use Rattle.energy.specs.Spared.{trialOf, aboveLimit, sparedOf}
+use Rattle.energy.specs.Trimmed.{sumOf, smallestOf, largestOf, trimmedOf}
+use Rattle.event_hours.specs.Days.{marksNone, withHours, masksTo, masksOf}
+use Rattle.event_hours.specs.Hours.{hoursMask}
 use Rattle.laws.specs.Answer.{refuse}
 use Rattle.laws.specs.Table.{firstOf, orElse}
 use Rattle.schedule.specs.ListCheck.{ownRows, listRows, noticeRows, noticeAnswer, sofarAt, answerAt, fromNotice, badList, listAnswer, checkAnswer}
@@ -15,10 +24,11 @@ use Rattle.schedule.specs.Notices.{noticeAt, hoursOf, hoursTo}
 use Rattle.schedule.specs.Profiles.{figuresOf, named}
 use Rattle.schedule.specs.Rules.{outsidePeriod, excludedDay, barredWeekend, outsideBands, badHours, badLength, startsBefore, sameBand, overLimit}
 use Rattle.figures.specs.CalendarFigures.{alsoFrom, alsoExcluded, calendarFigures}
+use Rattle.figures.specs.EnergyFigures.{sampleDay, sampleBook, sampleList, energyFigures}
 use Rattle.figures.specs.Figure.{Figure}
 use Rattle.figures.specs.Figures.{figures}
 use Rattle.figures.specs.ScheduleFigures.{mornings, hundredHours, scheduleFigures}
 
 pub figures-hold : map (λ (f : Figure). f .paper) figures ≡ map (λ (f : Figure). f .computed) figures
-unfolding calendarFigures alsoExcluded alsoFrom easterSunday refuse noEasterYear easterT easterInBook among goodFriday easterMonday excluded leap days noDay scheduleFigures mornings hundredHours checkAnswer listAnswer badList fromNotice answerAt noticeAnswer noticeRows ownRows listRows firstOf orElse sofarAt noticeAt hoursOf hoursTo named figuresOf outsidePeriod excludedDay barredWeekend outsideBands badHours badLength startsBefore sameBand overLimit noWinter inPeriod firstWeekday weekday weekend
+unfolding calendarFigures alsoExcluded alsoFrom easterSunday refuse noEasterYear easterT easterInBook among goodFriday easterMonday excluded leap days noDay scheduleFigures mornings hundredHours checkAnswer listAnswer badList fromNotice answerAt noticeAnswer noticeRows ownRows listRows firstOf orElse sofarAt noticeAt hoursOf hoursTo named figuresOf outsidePeriod excludedDay barredWeekend outsideBands badHours badLength startsBefore sameBand overLimit noWinter inPeriod firstWeekday weekday weekend energyFigures sampleDay sampleBook sampleList eventAnswer lineOf askedBy warmUp hoursFrom needed placesOn firstFault faultOf energyOf sumOver trimmedAt trimmedOf sumOf smallestOf largestOf sparedOf aboveLimit trialOf referenceDays before serves masksOf masksTo withHours marksNone hoursMask
 figures-hold = refl

@@ -2,8 +2,9 @@
 -- Assumes nothing.
 use mathlib.Core.List.{List, _++_}
 use Rattle.figures.specs.CalendarFigures.{calendarFigures}
+use Rattle.figures.specs.EnergyFigures.{energyFigures}
 use Rattle.figures.specs.Figure.{Figure}
 use Rattle.figures.specs.ScheduleFigures.{scheduleFigures}
 
 abbrev pub figures : List Figure
-figures = calendarFigures ++ scheduleFigures
+figures = calendarFigures ++ (scheduleFigures ++ energyFigures)

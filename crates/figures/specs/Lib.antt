@@ -1,4 +1,5 @@
 pub mod Figure
 pub mod CalendarFigures
 pub mod ScheduleFigures
+pub mod EnergyFigures
 pub mod Figures

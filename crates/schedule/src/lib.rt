@@ -10,6 +10,7 @@ pub use notices::Notice;
 pub use notices::notice_at;
 pub use profiles::Figures;
 pub use profiles::Profile;
+pub use rules::bad_hours;
 pub use verdicts::Rule;
 pub use verdicts::Verdict;
 pub use verdicts::number_of;

@@ -41,8 +41,8 @@ fn outside_bands(f: Figures, n: Notice) -> bool
         & ((n.start < Profile::EVENING) | (Profile::EVENING_END < n.end))
 }
 
-// 13: the hours are empty, reversed or not inside one band.
-pub(crate) fn bad_hours(f: Figures, n: Notice) -> bool
+// Rule 13: whether the hours of a notice are empty, reversed or not inside one band.
+pub fn bad_hours(f: Figures, n: Notice) -> bool
     ensures { λ r. ⌜ r ≡ badHours f n ⌝ }
 {
     (n.end <= n.start) | outside_bands(f, n)

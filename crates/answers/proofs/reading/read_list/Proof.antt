@@ -4,8 +4,8 @@ use Prim.Native.Nat.{_≤_, _-_}
 use mathlib.Core.Path.{_≡_}
 use lib.ListN.{length}
 use borrow.Author.Needs.{needs}
-use Rattle.answers.proofs.schedule_answers.read_list.Statement.{statement}
-use Rattle.answers.proofs.schedule_answers.read_list.Tie as tie
+use Rattle.answers.proofs.reading.read_list.Statement.{statement}
+use Rattle.answers.proofs.reading.read_list.Tie as tie
 
 abbrev Inv-loop : tie.InvT-loop
 Inv-loop list₀ count digits₀ i₀ list digits i = (i ≤ count) × (length list ≡ length list₀) × (length digits ≡ 11)

@@ -1,0 +1,39 @@
+-- What a line says depends on the needed readings only: two books that agree on them give the same line, and two books of one length
+-- the same answer to the call.
+-- Assumes nothing.
+use Prim.Native.Nat.{ℕ}
+use mathlib.Core.List.{List, [], _∷_}
+use mathlib.Core.Path.{_≡_, refl, sym, _∙_}
+use native.Mathlib.Nat.{one-mul}
+use lib.ListN.{length}
+use Rattle.laws.proofs.Every.{Every, imply}
+use Rattle.schedule.specs.declared.notices.Notice.{Notice}
+use Rattle.energy.specs.Asked.{Asked, askedBy, needed}
+use Rattle.energy.specs.Energy.{energyOf}
+use Rattle.energy.specs.Line.{lineOf, eventAnswer}
+use Rattle.energy.specs.Readings.{readingAt, firstFault}
+use Rattle.energy.proofs.Scaled.{Times, energy-scaled}
+
+module _ (book other : List ℕ) where
+  -- the two have one reading at a place
+  abbrev pub Agrees : ℕ → Type 0
+  Agrees p = readingAt book p ≡ readingAt other p
+
+  pub fault-agrees : (places : List ℕ) → Every Agrees places → firstFault book places ≡ firstFault other places
+  unfolding firstFault
+  fault-agrees [] a = refl
+  fault-agrees (p ∷ places) a = rw (a .0, fault-agrees places (a .1))
+
+  pub energy-agrees : (q : Asked) → Every Agrees (needed q) → energyOf book q ≡ energyOf other q
+  unfolding energyOf
+  energy-agrees q a =
+      energy-scaled 1 other book q (imply Agrees (Times 1 (readingAt other) (readingAt book)) (λ p h. h ∙ sym (one-mul _)) (needed q) a) ∙ simp one-mul
+
+  pub line-agrees : (q : Asked) → Every Agrees (needed q) → lineOf book q ≡ lineOf other q
+  unfolding lineOf
+  line-agrees q a = rw (fault-agrees (needed q) a, energy-agrees q a)
+
+  pub event-agrees : (y : ℕ) (masks : List ℕ) (n : Notice) → length book ≡ length other → Every Agrees (needed (askedBy y masks n))
+      → eventAnswer y book masks n ≡ eventAnswer y other masks n
+  unfolding eventAnswer
+  event-agrees y masks n e a = rw (e, line-agrees (askedBy y masks n) a)

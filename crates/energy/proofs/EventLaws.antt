@@ -1,0 +1,152 @@
+-- Theorems of the call on one event: where it is not refused, every needed place lies in the book; and a settled event's energy is at
+-- most 1,500,000,000 eighteenths of a Wh.
+-- Assumes nothing.
+use Prim.Native.Nat.{ℕ, zero, suc, _+_, _-_, _*_, _≤_, _<_}
+use mathlib.Core.Bool.{Bool, true, false, cond, true≢false}
+use mathlib.Core.List.{List, [], _∷_, _++_, map}
+use mathlib.Core.Path.{_≡_, refl, sym, ap}
+use native.Mathlib.Nat.{mul-add}
+use native.Mathlib.Omega.{arith}
+use lib.Dec.{ltb, eqb}
+use lib.ListN.{length, getD, length-map}
+use borrow.Author.Tests.{eqb-true, ltb-false, not-false}
+use Rattle.calendar.proofs.BookLaws.{part-there, part-earlier, place-in}
+use Rattle.calendar.proofs.Promise.{period-day}
+use Rattle.calendar.specs.Book.{noPart}
+use Rattle.laws.proofs.Every.{Every, left, right, joined, imply, map-of}
+use Rattle.laws.proofs.Refusals.{passed}
+use Rattle.laws.specs.Answer.{Answer, given, refuse}
+use Rattle.schedule.specs.declared.notices.Notice.{Notice}
+use Rattle.energy.specs.Asked.{Asked, askedBy, hoursFrom, warmUp, placesOf, placesOn, needed}
+use Rattle.energy.specs.Energy.{sumOver, drawnAt, trimmedAt, energyOf}
+use Rattle.energy.specs.HoursOf.{Spans}
+use Rattle.energy.specs.Line.{settled, unsettled, byFault, lineOf, eventAnswer}
+use Rattle.energy.specs.Readings.{readingAt, largestReading, faultOf, isClean, orFault, firstFault}
+use Rattle.energy.specs.ReferenceDays.{referenceDays}
+use Rattle.energy.specs.declared.readings.Fault.the-variants.{Clean, Missing, TooLarge}
+use Rattle.energy.specs.declared.readings.Fault.{Fault}
+use Rattle.energy.proofs.CallLaws.{in-band}
+use Rattle.energy.proofs.EnergyBound.{trimmed-bound, spared-bound}
+use Rattle.energy.proofs.HourLaws.{hours-long}
+use Rattle.energy.proofs.Nearest.{refs-serve, refs-few}
+use Rattle.energy.proofs.Scaled.{at-hours}
+
+-- places
+
+hours-below : (s k : ℕ) → s + k ≤ 24 → Every (λ (h : ℕ). h < 24) (hoursFrom s k)
+unfolding hoursFrom
+hours-below s zero b = tt
+hours-below s (suc k) b = (omega arith, hours-below (suc s) k (omega arith))
+
+warm-below : (s : ℕ) → s ≤ 20 → Every (λ (h : ℕ). h < 24) (warmUp s)
+unfolding warmUp
+warm-below s b = by (ltb s 16)
+  where
+    by : (m : Bool) → Every (λ (h : ℕ). h < 24) (cond m (hoursFrom (s - 5) 3) (hoursFrom (s - 4) 2))
+    by true = hours-below (s - 5) 3 (omega arith)
+    by false = hours-below (s - 4) 2 (omega arith)
+
+places-in : (y len : ℕ) (hours ds : List ℕ) → Every (λ (h : ℕ). h < 24) hours → Every (λ (d : ℕ). noPart y len d ≡ false) ds
+    → Every (λ (p : ℕ). p < len) (placesOn hours ds)
+unfolding placesOn
+places-in y len hours [] h e = tt
+places-in y len hours (d ∷ ds) h e =
+    joined _ (placesOf d hours) (placesOn hours ds)
+    (map-of _ (λ (x : ℕ). 24 * d + x) hours (imply _ _ (λ x b. place-in y len d x (e .0) b) hours h))
+    (places-in y len hours ds h (e .1))
+
+-- readings: those of a clean event are at most the largest
+
+both-clean : (f g : Fault) → isClean (orFault f g) ≡ true → (isClean f ≡ true) × (isClean g ≡ true)
+both-clean Clean g h = (refl, h)
+both-clean (Missing p) g h = absurd (true≢false (sym h))
+both-clean (TooLarge p) g h = absurd (true≢false (sym h))
+
+clean-value : (v p : ℕ) → isClean (faultOf v p) ≡ true → v ≤ largestReading
+unfolding faultOf
+clean-value v p h = ltb-false largestReading v (by (eqb v 4294967295) (ltb largestReading v) h)
+  where
+    by : (m l : Bool) → isClean (cond m (Missing p) (cond l (TooLarge p) Clean)) ≡ true → l ≡ false
+    by true l h = cc
+    by false true h = cc
+    by false false h = refl
+
+clean-values : (book places : List ℕ) → isClean (firstFault book places) ≡ true → Every (λ (p : ℕ). readingAt book p ≤ largestReading) places
+unfolding firstFault
+clean-values book [] h = tt
+clean-values book (p ∷ places) h =
+    let b = both-clean (faultOf (readingAt book p) p) (firstFault book places) h in
+    (clean-value (readingAt book p) p (b .0), clean-values book places (b .1))
+
+sum-most : (f : ℕ → ℕ) (m : ℕ) (hours : List ℕ) → Every (λ (h : ℕ). f h ≤ m) hours → sumOver f hours ≤ m * length hours
+unfolding sumOver
+sum-most f m [] a = omega arith
+sum-most f m (h ∷ hours) a = omega (arith, a .0, sum-most f m hours (a .1), mul-add m 1 (length hours))
+
+module _ (book : List ℕ) (q : Asked) (five : length (q .refs) ≡ 5) (clean : isClean (firstFault book (needed q)) ≡ true) where
+  abbrev HourMost : ℕ → Type 0
+  HourMost h = Every (λ (d : ℕ). drawnAt book d h ≤ largestReading) (q .day ∷ q .refs)
+
+  hours-most : Every HourMost (q .warm ++ q .event)
+  unfolding needed
+  hours-most = at-hours (λ (p : ℕ). readingAt book p ≤ largestReading) (q .warm ++ q .event) (q .day ∷ q .refs) (clean-values book (needed q) clean)
+
+  drawn-most : Every (λ (h : ℕ). drawnAt book (q .day) h ≤ largestReading) (q .warm ++ q .event)
+  drawn-most = imply HourMost _ (λ h x. x .0) (q .warm ++ q .event) hours-most
+
+  trimmed-most : Every (λ (h : ℕ). trimmedAt book (q .refs) h ≤ 3 * largestReading) (q .warm ++ q .event)
+  unfolding trimmedAt
+  trimmed-most =
+      imply HourMost _
+      (λ h x. trimmed-bound largestReading (map (λ (d : ℕ). drawnAt book d h) (q .refs)) (simp length-map five) (map-of _ (λ (d : ℕ). drawnAt book d h) (q .refs) (x .1)))
+      (q .warm ++ q .event)
+      hours-most
+
+  clean-most : length (q .event) ≤ 4 → energyOf book q ≤ 1500000000
+  unfolding energyOf
+  clean-most b =
+      spared-bound (length (q .event)) (length (q .warm)) _ _ _ _ b
+      (sum-most (trimmedAt book (q .refs)) (3 * largestReading) (q .event) (right _ (q .warm) (q .event) trimmed-most))
+      (sum-most (drawnAt book (q .day)) largestReading (q .warm) (left _ (q .warm) (q .event) drawn-most))
+
+-- the line: a settled one has five reference days and no fault
+line-settled : (few : Bool) (f : Fault) (energy e : ℕ) → refuse few (unsettled 20 0) (byFault f energy) ≡ settled e
+    → (few ≡ false) × (isClean f ≡ true) × (energy ≡ e)
+unfolding refuse
+line-settled true f energy e q = absurd (omega (arith, ap (λ (a : Answer). getD (a .values) 0 0) q))
+line-settled false Clean energy e q = (refl, refl, ap (λ (a : Answer). getD (a .values) 2 0) q)
+line-settled false (Missing p) energy e q = absurd (omega (arith, ap (λ (a : Answer). getD (a .values) 0 0) q))
+line-settled false (TooLarge p) energy e q = absurd (omega (arith, ap (λ (a : Answer). getD (a .values) 0 0) q))
+
+module _ (y : ℕ) (book masks : List ℕ) (n : Notice) where
+  -- a call that is not refused: the day is in the book, the hours lie in a band, and the line is the answer
+  taken : (vs : List ℕ) → eventAnswer y book masks n ≡ given vs
+      → (noPart y (length book) (n .day) ≡ false) × Spans (n .start) (n .end) × (lineOf book (askedBy y masks n) ≡ given vs)
+  unfolding eventAnswer
+  taken vs e =
+      let a = passed 0 _ _ vs e in
+      let b = passed 1 _ _ vs (a .1) in
+      let c = passed 9 _ _ vs (b .1) in
+      let d = passed 12 _ _ vs (c .1) in
+      (part-there y (length book) (n .day) (a .0) (eqb-true _ _ (not-false _ (b .0))) (period-day y (n .day) .0 (not-false _ (c .0)) .1), in-band _ n refl (d .0), d .1)
+
+  pub needed-in : (vs : List ℕ) → eventAnswer y book masks n ≡ given vs → Every (λ (p : ℕ). p < length book) (needed (askedBy y masks n))
+  unfolding needed askedBy
+  needed-in vs e =
+      let t = taken vs e in
+      let s = t .1 in
+      places-in y (length book) _ _
+      (joined _ (warmUp (n .start)) (hoursFrom (n .start) (n .end - n .start)) (warm-below (n .start) (omega (arith, s .in-day, s .some-hour))) (hours-below (n .start) (n .end - n .start) (omega (arith, s .in-day, s .some-hour))))
+      (t .0, imply _ _ (λ d x. part-earlier y (length book) (n .day) d (t .0) (omega (arith, x .0))) (referenceDays y masks (n .day)) (refs-serve y masks (n .day)))
+
+  pub energy-most : (e : ℕ) → eventAnswer y book masks n ≡ settled e → e ≤ 1500000000
+  unfolding lineOf askedBy
+  energy-most e q =
+      let t = taken (0 ∷ 0 ∷ e ∷ []) q in
+      let l = line-settled (ltb (length (referenceDays y masks (n .day))) 5) (firstFault book (needed (askedBy y masks n))) (energyOf book (askedBy y masks n)) e (t .2) in
+      omega (
+        arith,
+        l .2,
+        clean-most book (askedBy y masks n) (omega (arith, ltb-false (length (referenceDays y masks (n .day))) 5 (l .0), refs-few y masks (n .day))) (l .1)
+            (omega (arith, hours-long (n .start) (n .end - n .start), t .1 .few)),
+      )

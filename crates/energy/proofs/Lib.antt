@@ -1,0 +1,14 @@
+pub mod Agree
+pub mod CallLaws
+pub mod EnergyBound
+pub mod EventLaws
+pub mod HourLaws
+pub mod LineLaws
+pub mod Nearest
+pub mod OneOutcome
+pub mod ReferenceLaws
+pub mod Scaled
+pub mod Signs
+pub mod SpanLaws
+pub mod SparedLaws
+pub mod TrimmedLaws

@@ -1,0 +1,110 @@
+-- What `serves` gives for each way out of its code, and how the search backwards, which keeps what it found in an array, comes to the
+-- reference days: one law for each turn and for the end.
+-- Assumes nothing.
+use Prim.Native.Nat.{ℕ, zero, suc, _+_, _-_, _≤_, _<_}
+use mathlib.Core.Bool.{Bool, true, false, not, _&&_, Bool·beq}
+use mathlib.Core.List.{List, [], _∷_}
+use mathlib.Core.Path.{_≡_, refl, ap, _∙_}
+use native.Mathlib.Numerals.{add-one}
+use native.Mathlib.Omega.{arith}
+use lib.Dec.{ltb}
+use lib.ListN.{length, getD, take, set, replicate, length-set}
+use lib.Seq.{sets, take-nil}
+use borrow.Author.Tests.{eq-eqb, ne-eqb, ltb-true, ltb-false, lt-ltb}
+use Rattle.calendar.specs.Excluded.{excluded}
+use Rattle.calendar.specs.Weekdays.{weekend}
+use Rattle.laws.proofs.Guards.{both}
+use Rattle.energy.specs.Held.{heldIn}
+use Rattle.energy.specs.ReferenceDays.{serves, before, referenceDays}
+use Rattle.energy.specs.declared.reference_days.Refs.{Refs}
+
+and-false : (b : Bool) → (b && false) ≡ false
+and-false true = refl
+and-false false = refl
+
+-- the ways out of `day_serves`
+module _ (y : ℕ) (masks : List ℕ) (day d : ℕ) where
+  pub other-kind : Bool·beq (weekend y d) (weekend y day) ≡ false → serves y masks day d ≡ false
+  unfolding serves
+  other-kind h = rw h
+
+  pub has-event : (getD masks d 0 ≡ 0 → ⊥) → serves y masks day d ≡ false
+  unfolding serves
+  has-event h = rw (ne-eqb (getD masks d 0) 0 h, and-false)
+
+  pub free-day : Bool·beq (weekend y d) (weekend y day) ≡ true → getD masks d 0 ≡ 0 → serves y masks day d ≡ not (excluded y d)
+  unfolding serves
+  free-day h k = rw (h, eq-eqb (getD masks d 0) 0 k)
+
+-- with `count` days of `want` stored, the rest of `want` are the nearest before d that pass
+pub record Search (ok : ℕ → Bool) (want days : List ℕ) (count d : ℕ) : Type 0 where
+  pub room : count ≤ 5
+  pub size : length days ≡ 5
+  pub stored : sets days count (take (5 - count) (before ok d)) ≡ sets (replicate 5 0) 0 want
+  pub counted : count + length (take (5 - count) (before ok d)) ≡ length want
+
+-- the search goes on while there are days left and room for one
+pub goes-on : (d count : ℕ) → (ltb 0 d && ltb count 5) ≡ true → (0 < d) × (count < 5)
+goes-on d count e = let p = both (ltb 0 d) (ltb count 5) e in (ltb-true 0 d (p .0), ltb-true count 5 (p .1))
+
+pub before-yes : (ok : ℕ → Bool) (d : ℕ) → ok d ≡ true → before ok (suc d) ≡ d ∷ before ok d
+unfolding before
+before-yes ok d t = rw t
+
+pub before-no : (ok : ℕ → Bool) (d : ℕ) → ok d ≡ false → before ok (suc d) ≡ before ok d
+unfolding before
+before-no ok d t = rw t
+
+pub search-start : (y : ℕ) (masks : List ℕ) (day : ℕ) → Search (serves y masks day) (referenceDays y masks day) (replicate 5 0) 0 day
+unfolding referenceDays
+search-start y masks day = record { room = omega arith; size = refl; stored = refl; counted = omega arith }
+
+module _ (ok : ℕ → Bool) (want days : List ℕ) (count : ℕ) where
+  yes-next : (d : ℕ) → ok d ≡ true → count < 5 → Search ok want days count (suc d) → Search ok want (set days count d) (suc count) d
+  yes-next d t h s =
+      record {
+        room = omega arith;
+        size = length-set days count d ∙ s .size;
+        stored = ap (λ (xs : List ℕ). sets days count xs) more ∙ s .stored;
+        counted = omega (arith, ap (λ (xs : List ℕ). length xs) more, s .counted);
+      }
+    where
+      more : d ∷ take (5 - suc count) (before ok d) ≡ take (5 - count) (before ok (suc d))
+      more = let e : 5 - count ≡ suc (5 - suc count) = omega arith in rw (e, before-yes ok d t)
+
+  no-next : (d : ℕ) → ok d ≡ false → Search ok want days count (suc d) → Search ok want days count d
+  no-next d t s =
+      record {
+        room = s .room;
+        size = s .size;
+        stored = rw (before-no ok d t) at (s .stored);
+        counted = rw (before-no ok d t) at (s .counted);
+      }
+
+  -- the day before d is taken, or is passed over
+  pub search-took : (d : ℕ) → (0 < d) × (count < 5) → ok (d - 1) ≡ true → Search ok want days count d → Search ok want (set days count (d - 1)) (count + 1) (d - 1)
+  search-took zero h t s = absurd (omega arith)
+  search-took (suc d) h t s = let e : suc d - 1 ≡ d = omega arith in rw (e, add-one) (yes-next d (rw e at t) (h .1) s)
+
+  pub search-passed : (d : ℕ) → (0 < d) × (count < 5) → ok (d - 1) ≡ false → Search ok want days count d → Search ok want days count (d - 1)
+  search-passed zero h t s = absurd (omega arith)
+  search-passed (suc d) h t s = let e : suc d - 1 ≡ d = omega arith in rw e (no-next d (rw e at t) s)
+
+  none-left : (d : ℕ) → (ltb 0 d && ltb count 5) ≡ false → take (5 - count) (before ok d) ≡ []
+  unfolding before
+  none-left zero e = take-nil (5 - count)
+  none-left (suc d) e =
+      let l : 5 ≤ count = ltb-false count 5 (rw (lt-ltb 0 (suc d) (omega arith)) at e) in
+      let z : 5 - count ≡ 0 = omega arith in
+      rw z
+
+  -- no days left, or no room: all is stored
+  pub search-ends : (d : ℕ) → (ltb 0 d && ltb count 5) ≡ false → Search ok want days count d → _≡_ {A = Refs} (record { days = days; count = count }) (heldIn want)
+  unfolding heldIn
+  search-ends d e s = rw (all-stored, all-counted)
+    where
+      all-stored : days ≡ sets (replicate 5 0) 0 want
+      all-stored = rw (none-left d e) at (s .stored)
+
+      all-counted : count ≡ length want
+      all-counted = omega (arith, rw (none-left d e) at (s .counted))

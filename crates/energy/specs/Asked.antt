@@ -1,0 +1,42 @@
+-- What an event asks of a book, by winter, masks and notice alone: its day, its warm-up and event hours, and its reference days.
+-- Assumes nothing.
+use Prim.Native.Nat.{ℕ, zero, suc, _+_, _-_, _*_}
+use mathlib.Core.Bool.{cond}
+use mathlib.Core.List.{List, [], _∷_, _++_, map}
+use lib.Dec.{ltb}
+use Rattle.schedule.specs.Profiles.{eveningStart}
+use Rattle.schedule.specs.declared.notices.Notice.{Notice}
+use Rattle.energy.specs.ReferenceDays.{referenceDays}
+
+pub record Asked : Type 0 where
+  pub day : ℕ
+  pub warm : List ℕ
+  pub event : List ℕ
+  pub refs : List ℕ
+
+-- n hours from h on
+unfoldable pub hoursFrom : ℕ → ℕ → List ℕ
+hoursFrom h zero = []
+hoursFrom h (suc n) = h ∷ hoursFrom (suc h) n
+
+-- "Warm-up hours: for a morning event s-5, s-4, s-3 (W = 3); for an evening event s-4, s-3 (W = 2)."
+unfoldable pub warmUp : ℕ → List ℕ
+warmUp s = cond (ltb s eveningStart) (hoursFrom (s - 5) 3) (hoursFrom (s - 4) 2)
+
+unfoldable pub askedBy : ℕ → List ℕ → Notice → Asked
+askedBy y masks n =
+    record { day = n .day; warm = warmUp (n .start); event = hoursFrom (n .start) (n .end - n .start); refs = referenceDays y masks (n .day) }
+
+-- the places of some hours of a day: "24 times day plus hour"
+abbrev pub placesOf : ℕ → List ℕ → List ℕ
+placesOf d hours = map (λ (h : ℕ). 24 * d + h) hours
+
+-- and of the same hours of each of some days
+unfoldable pub placesOn : List ℕ → List ℕ → List ℕ
+placesOn hours [] = []
+placesOn hours (d ∷ ds) = placesOf d hours ++ placesOn hours ds
+
+-- "Needed readings are looked at in this order ..: event day, its warm-up hours and then its event hours, ascending; then the reference
+-- days, nearest first, each the same way. No other reading is looked at."
+unfoldable pub needed : Asked → List ℕ
+needed a = placesOn (a .warm ++ a .event) (a .day ∷ a .refs)

@@ -1,0 +1,29 @@
+-- The spared energy with the hours and the reference days as the code holds them.
+-- Assumes nothing.
+use Prim.Native.Nat.{ℕ, _-_, _≤_, _<_}
+use mathlib.Core.Bool.{false}
+use mathlib.Core.List.{List}
+use mathlib.Core.Path.{_≡_}
+use lib.ListN.{getD}
+use Rattle.calendar.specs.Book.{noPart}
+use Rattle.energy.specs.Energy.{sumOver, drawnAt, trimmedAt}
+use Rattle.energy.specs.Held.{hoursIn}
+use Rattle.energy.specs.Spared.{sparedOf}
+use Rattle.energy.specs.declared.hours.Hours.{Hours}
+
+unfoldable pub energyIn : List ℕ → ℕ → Hours → List ℕ → ℕ
+energyIn book day hours refs =
+    sparedOf (hours .all - hours .warm) (hours .warm)
+    (sumOver (trimmedAt book refs) (hoursIn hours (hours .warm) (hours .all)))
+    (sumOver (trimmedAt book refs) (hoursIn hours 0 (hours .warm)))
+    (sumOver (drawnAt book day) (hoursIn hours 0 (hours .warm)))
+    (sumOver (drawnAt book day) (hoursIn hours (hours .warm) (hours .all)))
+
+-- all that is asked of a book of n numbers lies in it
+pub record Ready (y n day : ℕ) (hours : Hours) (refs : List ℕ) : Type 0 where
+  pub day-in : noPart y n day ≡ false
+  pub refs-in : (k : ℕ) → k < 5 → noPart y n (getD refs k 0) ≡ false
+  pub hours-in : (k : ℕ) → k < 7 → getD (hours .at) k 0 < 24
+  pub warm-few : (2 ≤ hours .warm) × (hours .warm ≤ 3)
+  pub all-few : (hours .warm ≤ hours .all) × (hours .all ≤ 7)
+  pub event-few : hours .all - hours .warm ≤ 4

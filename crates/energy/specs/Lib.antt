@@ -1,0 +1,10 @@
+pub mod ReferenceDays
+pub mod Asked
+pub mod Readings
+pub mod Trimmed
+pub mod Spared
+pub mod Energy
+pub mod Held
+pub mod HoursOf
+pub mod EnergyIn
+pub mod Line

@@ -1,0 +1,26 @@
+-- Reference days.
+-- Assumes nothing.
+use Prim.Native.Nat.{ℕ, zero, suc}
+use mathlib.Core.Bool.{Bool, not, cond, Bool·beq, _&&_}
+use mathlib.Core.List.{List, [], _∷_}
+use lib.Dec.{eqb}
+use lib.ListN.{getD, take}
+use Rattle.calendar.specs.Excluded.{excluded}
+use Rattle.calendar.specs.Weekdays.{weekend}
+
+-- a day "of its kind (weekday or weekend)", the event day's, that carries "no event at any hour" and is "not excluded"
+unfoldable pub serves : ℕ → List ℕ → ℕ → ℕ → Bool
+serves y masks day d = Bool·beq (weekend y d) (weekend y day) && eqb (getD masks d 0) 0 && not (excluded y d)
+
+-- a day before other days, where it is wanted
+abbrev pub withDay : Bool → ℕ → List ℕ → List ℕ
+withDay b d ds = cond b (d ∷ ds) ds
+
+-- the days before d that pass a test, nearest first
+unfoldable pub before : (ℕ → Bool) → ℕ → List ℕ
+before ok zero = []
+before ok (suc d) = withDay (ok d) d (before ok d)
+
+-- "the five nearest days before the event day"; fewer where there are not five
+unfoldable pub referenceDays : ℕ → List ℕ → ℕ → List ℕ
+referenceDays y masks day = take 5 (before (serves y masks day) day)

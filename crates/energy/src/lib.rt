@@ -1,0 +1,11 @@
+// What was spared: from the readings of a book to the spared energy of an event.
+mod hours;
+mod lines;
+mod readings;
+mod reference_days;
+mod spared;
+mod sums;
+mod trimmed;
+
+pub use lines::Line;
+pub use lines::settle_event;

@@ -1,0 +1,43 @@
+// The reference days of an event.
+ghost use mathlib.Core.Path.{_≡_};
+ghost use Prim.Native.Nat.{_<_};
+ghost use Rattle.energy.specs.ReferenceDays.{serves, referenceDays};
+ghost use Rattle.energy.specs.Held.{heldIn};
+
+// Reference days, nearest first: the first `count` of `days`.
+pub struct Refs {
+    pub days: [u32; 5],
+    pub count: usize,
+}
+
+// Whether a day serves as reference: of the event day's kind, with no event at any hour, and not excluded.
+fn day_serves(winter: u32, masks: &[u32; 152], day: u32, d: u32) -> bool
+    requires { ⌜ d < 152 ⌝ }
+    ensures { λ r. ⌜ r ≡ serves winter (now (masks .entry)) day d ⌝ }
+{
+    if calendar::is_weekend(winter, d) != calendar::is_weekend(winter, day) {
+        return false;
+    }
+    if masks[d as usize] != 0 {
+        return false;
+    }
+    !calendar::is_excluded(winter, d)
+}
+
+// The five nearest days before the event day that serve, or as many as there are. It stops at the fifth.
+pub(crate) fn nearest(winter: u32, masks: &[u32; 152], day: u32) -> Refs
+    requires { ⌜ day < 152 ⌝ }
+    ensures { λ r. ⌜ r ≡ heldIn (referenceDays winter (now (masks .entry)) day) ⌝ }
+{
+    let mut days = [0u32; 5];
+    let mut count: usize = 0;
+    let mut d = day;
+    while (0 < d) & (count < 5) {
+        d -= 1;
+        if day_serves(winter, masks, day, d) {
+            days[count] = d;
+            count += 1;
+        }
+    }
+    Refs { days, count }
+}

@@ -1,0 +1,53 @@
+-- The figures of the spared energy, in winter 2026.
+-- Assumes nothing.
+use Prim.Native.Nat.{ℕ, _*_}
+use mathlib.Core.List.{List, [], _∷_, _++_}
+use lib.ListN.{replicate}
+use Rattle.energy.specs.Line.{settled, eventAnswer}
+use Rattle.energy.specs.Readings.{missingMark}
+use Rattle.energy.specs.ReferenceDays.{referenceDays}
+use Rattle.energy.specs.Spared.{sparedOf}
+use Rattle.event_hours.specs.Days.{masksOf}
+use Rattle.laws.specs.Answer.{Answer, given}
+use Rattle.schedule.specs.Notices.{noticeAt}
+use Rattle.figures.specs.Figure.{Figure, figure}
+
+-- the reference days of an event on a day, with the events of a list
+abbrev pub references : List ℕ → ℕ → Answer
+references list day = given (referenceDays 2026 (masksOf list) day)
+
+-- H = W = 3, R = 126,000, B = 9,000, A = 12,000, and C
+abbrev pub sparedWith : ℕ → Answer
+sparedWith c = given (sparedOf 3 3 126000 9000 12000 c ∷ [])
+
+-- n missing readings
+abbrev pub missing : ℕ → List ℕ
+missing n = replicate n missingMark
+
+-- the sample's readings of a day: two lines `read=`, three readings from hour 1 and three from hour 6; "Unlisted hours are missing."
+unfoldable pub sampleDay : ℕ → ℕ → List ℕ
+sampleDay a b = missing 1 ++ (replicate 3 a ++ (missing 2 ++ (replicate 3 b ++ missing 15)))
+
+-- the sample's days are 31 to 33 and 36 to 38, of 151
+unfoldable pub sampleBook : List ℕ
+sampleBook =
+    missing (24 * 31) ++ (sampleDay 2000 2000 ++ (sampleDay 2100 2100 ++ (sampleDay 2200 2200 ++ (missing (24 * 2)
+    ++ (sampleDay 2300 2300 ++ (sampleDay 2400 2400 ++ (sampleDay 2500 1000 ++ missing (24 * 112))))))))
+
+-- `event=38,6,9`
+unfoldable pub sampleList : List ℕ
+sampleList = 38 ∷ 6 ∷ 9 ∷ []
+
+unfoldable pub energyFigures : List Figure
+energyFigures =
+    -- "P Winter 2026, event on day 34: reference 28, 27, 21, 20, 14."
+    figure (given (28 ∷ 27 ∷ 21 ∷ 20 ∷ 14 ∷ [])) (references (34 ∷ 6 ∷ 9 ∷ []) 34)
+    -- "P Day 57: 52, 51, 50, 47, 46; with an event on 51: 52, 50, 47, 46, 45."
+    ∷ figure (given (52 ∷ 51 ∷ 50 ∷ 47 ∷ 46 ∷ [])) (references (57 ∷ 6 ∷ 9 ∷ []) 57)
+    ∷ figure (given (52 ∷ 50 ∷ 47 ∷ 46 ∷ 45 ∷ [])) (references (51 ∷ 6 ∷ 9 ∷ 57 ∷ 6 ∷ 9 ∷ []) 57)
+    -- "P H = W = 3, R = 126,000, B = 9,000, A = 12,000: C = 11,000 gives 720,000; C = 10,999 gives 666,018."
+    ∷ figure (given (720000 ∷ [])) (sparedWith 11000)
+    ∷ figure (given (666018 ∷ [])) (sparedWith 10999)
+    -- the sample: `line=38,6,9,0,0,81000,234`, without the cents
+    ∷ figure (settled 81000) (eventAnswer 2026 sampleBook (masksOf sampleList) (noticeAt sampleList 0))
+    ∷ []
