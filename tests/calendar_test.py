@@ -12,7 +12,9 @@ from datetime import date
 from functools import partial
 from itertools import product
 
-from harness import Failure, ask_layer, check_same_lines, check_short_input, run_tests
+from harness import (
+    Failure, ask_layer, check_same_lines, check_short_input, run_tests, written_groups,
+)
 from second import winters
 
 LAYER = "calendar"
@@ -59,13 +61,8 @@ RANDOM_QUERIES = 20_000
 # The program.
 
 
-def written(queries):
-    """Queries in the form the program reads."""
-    return b"".join(b"%010d %010d %010d\n" % query for query in queries)
-
-
 def ask(queries):
-    return ask_layer(LAYER, written(queries))
+    return ask_layer(LAYER, written_groups(queries))
 
 
 def fields(line):
@@ -215,8 +212,8 @@ def check_excluded_days(winter, easter_days):
 
 def check_short_last_piece():
     whole = (2026, 38, 3624)
-    piece = written([(2023, 149, 3648)])
-    check_short_input(LAYER, written([whole]), winters.line(*whole), piece, (1, 16, 32))
+    piece = written_groups([(2023, 149, 3648)])
+    check_short_input(LAYER, written_groups([whole]), winters.line(*whole), piece, (1, 16, 32))
 
 
 def formula_easter(y):

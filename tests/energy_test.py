@@ -19,7 +19,10 @@ from event_books import (
     lengths, limited, marked, needed, period, references, settled, step, sums_for, unlimited,
     unmarking, with_book, with_readings,
 )
-from harness import Failure, ask_layer, check_same_lines, check_short_input, run_tests
+from harness import (
+    Failure, ask_layer, check_built_for, check_possible, check_same_lines, check_short_input,
+    run_tests, written_groups,
+)
 from notice_lists import FAR_DAYS, FAR_HOURS, FARTHEST, every_shape, flat
 from second import energies, notices, winters
 from second.energies import HIGHEST_READING, LONGEST_BOOK, MISSING, Query, place_of
@@ -64,13 +67,11 @@ RANDOM_QUERIES = 1_400
 
 def written(queries):
     """Queries in the form the program reads."""
-    pieces = []
+    groups = []
     for winter, numbers, length, seed, low, spread, changes, *event in queries:
         header = (winter, len(numbers), length, seed, low, spread, len(changes), *event)
-        for group in (header, numbers, flat(changes)):
-            if group:
-                pieces.append(b" ".join(b"%010d" % number for number in group) + b"\n")
-    return b"".join(pieces)
+        groups += [header, numbers, flat(changes)]
+    return written_groups(groups)
 
 
 def ask(queries):
@@ -491,15 +492,9 @@ def check_group(cases, answered):
     check_same_lines(queries, said, [energies.printed(answer) for answer in found])
 
 
-def check_built_for(built, answered):
+def check_lines(built, answered):
     """The queries built for a line got it."""
-    rows = [(case, line) for case, line, _ in answered if case.built_for]
-    if len(rows) != built:
-        raise Failure(f"{len(rows)} of them were answered")
-    wrong = [(case, line) for case, line in rows if case.built_for != line]
-    if wrong:
-        case, line = wrong[0]
-        raise Failure(f"{len(wrong)} got others; the first got {line}: {case}")
+    check_built_for(built, [(case, line) for case, line, _ in answered if case.built_for])
 
 
 def check_every_number(answered):
@@ -511,12 +506,7 @@ def check_every_number(answered):
     possible = [f"refusal {number}" for number in REFUSALS] + [f"code {code}" for code in CODES]
     for given in possible:
         print(f"  {given:10}  {tally[given]}")
-    never = [given for given in possible if tally[given] == 0]
-    if never:
-        raise Failure(f"never given: {', '.join(never)}")
-    others = sorted(tally.keys() - possible)
-    if others:
-        raise Failure(f"given but not possible: {', '.join(others)}")
+    check_possible(tally, possible)
 
 
 def check_all_happened(answered):
@@ -649,7 +639,7 @@ def all_tests():
         ),
         (
             f"lines that queries were built for: {built} queries",
-            partial(check_built_for, built, answered),
+            partial(check_lines, built, answered),
         ),
         ("every possible number was given", partial(check_every_number, answered)),
         ("all that can happen to an energy happened", partial(check_all_happened, answered)),

@@ -47,6 +47,13 @@ def ask_layer(layer, text):
     return run_program("answers", b"%010d\n" % LAYERS[layer] + text)
 
 
+def written_groups(groups):
+    """Groups of numbers in the form `answers` reads: every number in ten digits and one byte
+    more. An empty group leaves nothing."""
+    lines = (b" ".join(b"%010d" % number for number in group) for group in groups if group)
+    return b"".join(line + b"\n" for line in lines)
+
+
 def check_short_input(layer, whole, right, piece, lengths):
     """No input prints nothing, and a last piece shorter than a query changes nothing, alone
     or after a whole query, whose line is `right`."""
@@ -67,6 +74,27 @@ def check_same_lines(queries, said, right):
             for query, one, other in differences[:SHOWN_DIFFERENCES]
         ]
         raise Failure(f"lines that differ: {len(differences)}; the first:{''.join(shown)}")
+
+
+def check_built_for(built, given):
+    """The cases that were built for an answer got it: `given` has each of them, `built` in
+    number, with what it got."""
+    if len(given) != built:
+        raise Failure(f"{len(given)} of them were answered")
+    wrong = [(case, got) for case, got in given if case.built_for != got]
+    if wrong:
+        case, got = wrong[0]
+        raise Failure(f"{len(wrong)} got others; the first got {got}: {case}")
+
+
+def check_possible(tally, possible):
+    """Each of the possible answers was given at least once, and no other."""
+    never = [name for name in possible if tally[name] == 0]
+    if never:
+        raise Failure(f"never given: {', '.join(never)}")
+    others = sorted(tally.keys() - set(possible))
+    if others:
+        raise Failure(f"given but not possible: {', '.join(others)}")
 
 
 def run_tests(tests):

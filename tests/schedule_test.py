@@ -14,7 +14,10 @@ from functools import partial
 from itertools import combinations, pairwise, product
 from typing import NamedTuple
 
-from harness import Failure, ask_layer, check_same_lines, check_short_input, run_tests
+from harness import (
+    Failure, ask_layer, check_built_for, check_possible, check_same_lines, check_short_input,
+    run_tests, written_groups,
+)
 from notice_lists import (
     BARRED_DAYS, FAR_DAYS, FAR_HOURS, FARTHEST, WAYS, WRONG_HOURS, allowed_hours, drawn_slots,
     every_shape, flat, list_of_count, list_of_hours, notice_in, open_days,
@@ -99,12 +102,11 @@ class Case(NamedTuple):
 
 def written(queries):
     """Queries in the form the program reads."""
-    pieces = []
-    for winter, profile, numbers in queries:
-        pieces.append(b"%010d %010d %010d\n" % (winter, profile, len(numbers)))
-        if numbers:
-            pieces.append(b" ".join(b"%010d" % number for number in numbers) + b"\n")
-    return b"".join(pieces)
+    return written_groups(
+        group
+        for winter, profile, numbers in queries
+        for group in ((winter, profile, len(numbers)), numbers)
+    )
 
 
 def ask(queries):
@@ -380,16 +382,11 @@ def check_group(cases, answered):
     check_same_lines(queries, said, [notices.line(*query) for query in queries])
 
 
-def check_built_for(built, answered):
+def check_numbers_and_places(built, answered):
     """The lists built for a number and a place got these: for a broken list the place is
     the index of its first broken notice."""
-    told = [(case, number_and_place(line)) for case, line in answered if case.built_for]
-    if len(told) != built:
-        raise Failure(f"{len(told)} of them were answered")
-    wrong = [(case, given) for case, given in told if case.built_for != given]
-    if wrong:
-        case, given = wrong[0]
-        raise Failure(f"{len(wrong)} got others; the first got {given}: {case}")
+    rows = [(case, number_and_place(line)) for case, line in answered if case.built_for]
+    check_built_for(built, rows)
 
 
 def check_every_number(answered):
@@ -398,17 +395,14 @@ def check_every_number(answered):
     for case, line in answered:
         column = f"profile {case.profile}" if case.profile in PROFILES else "neither"
         number, _ = number_and_place(line) or (None, None)
-        tally[column, number] += 1
+        tally[f"{number} for {column}"] += 1
     for column, numbers in POSSIBLE.items():
-        counts = [f"{number}: {tally[column, number]}" for number in numbers]
+        counts = [f"{number}: {tally[f'{number} for {column}']}" for number in numbers]
         print(f"  {column:9}  {'  '.join(counts)}")
-    possible = {(column, number) for column in POSSIBLE for number in POSSIBLE[column]}
-    never = [f"{number} for {column}" for column, number in sorted(possible - tally.keys())]
-    if never:
-        raise Failure(f"never given: {', '.join(never)}")
-    others = [f"{number} for {column}" for column, number in tally.keys() - possible]
-    if others:
-        raise Failure(f"given but not possible: {', '.join(others)}")
+    possible = [
+        f"{number} for {column}" for column, numbers in POSSIBLE.items() for number in numbers
+    ]
+    check_possible(tally, possible)
 
 
 def check_accepted_share(asked, answered):
@@ -469,7 +463,8 @@ def check_short_last_piece():
     """The piece may end in the header, just behind it or in the list."""
     whole = (2026, 1, (38, 6, 9))
     piece = written([(2026, 1, (39, 6, 9))])
-    check_short_input(LAYER, written([whole]), notices.line(*whole), piece, (1, 16, 32, 33, 34, 44, 65))
+    short = (1, 16, 32, 33, 34, 44, 65)
+    check_short_input(LAYER, written([whole]), notices.line(*whole), piece, short)
 
 
 def all_tests():
@@ -485,7 +480,7 @@ def all_tests():
         ),
         (
             f"number and place that lists were built for: {built} lists",
-            partial(check_built_for, built, answered),
+            partial(check_numbers_and_places, built, answered),
         ),
         ("every possible number was given", partial(check_every_number, answered)),
         ("enough lists were accepted", partial(check_accepted_share, asked, answered)),
