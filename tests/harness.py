@@ -20,23 +20,29 @@ class Failure(Exception):
     """A test that failed; the text says why."""
 
 
-def run_program(program, text):
-    """The lines the program prints for this input."""
+def run_script(name, script, arguments, given):
+    """The bytes that a program prints for this input; a script runs it."""
     try:
         run = subprocess.run(
-            [ROOT / "scripts" / "program", program],
-            input=text, capture_output=True, timeout=SECONDS_ALLOWED,
+            [ROOT / "scripts" / script, *arguments],
+            input=given, capture_output=True, timeout=SECONDS_ALLOWED,
         )
     except OSError as error:
-        raise Failure(f"cannot run {program}: {error.strerror}") from None
+        raise Failure(f"cannot run {name} by scripts/{script}: {error.strerror}") from None
     except subprocess.TimeoutExpired:
-        raise Failure(f"{program} ran longer than {SECONDS_ALLOWED} seconds") from None
+        raise Failure(f"{name} ran longer than {SECONDS_ALLOWED} seconds") from None
     if run.returncode < 0:
-        raise Failure(f"{program} was ended by signal {-run.returncode}")
+        raise Failure(f"{name} was ended by signal {-run.returncode}")
     if run.returncode > 0:
         reason = run.stderr.decode(errors="backslashreplace").strip()
-        raise Failure(f"{program} ended with exit status {run.returncode}: {reason}")
-    *lines, rest = run.stdout.decode("ascii", "backslashreplace").split("\n")
+        raise Failure(f"{name} ended with exit status {run.returncode}: {reason}")
+    return run.stdout
+
+
+def run_program(program, text):
+    """The lines the program prints for this input."""
+    printed = run_script(program, "program", [program], text)
+    *lines, rest = printed.decode("ascii", "backslashreplace").split("\n")
     if rest:
         raise Failure(f"the last line is not ended by byte 10: {rest}")
     return lines

@@ -15,6 +15,7 @@ for each.
 import sys
 from collections import defaultdict
 from fractions import Fraction
+from functools import cache, lru_cache, partial
 from typing import NamedTuple
 
 from second import notices, winters
@@ -124,6 +125,7 @@ def readings_at(query, hours):
 # The hours of an event and its reference days.
 
 
+@lru_cache(maxsize=1)
 def event_hours(numbers):
     """The event hours of a list, as a set for each day. The list is taken as it is: a
     notice marks nothing where there is no such day, where it ends behind the day or where
@@ -140,18 +142,22 @@ def warm_up_hours(event):
     return [event.first - before for before in WARM_UP[notices.band_of(PROFILES[1], event)]]
 
 
-def serving_days(winter, numbers, day):
+@cache
+def days_of_kind(winter, day):
     """All days before the event day, the nearest first, "that are of its kind (weekday or
-    weekend), carry no event at any hour, and are not excluded"."""
+    weekend) .. and are not excluded"."""
     kinds = notices.day_kinds(winter)
-    hours = event_hours(numbers)
     return [
         before
         for before in reversed(range(day))
-        if (before in kinds.weekend) == (day in kinds.weekend)
-        and before not in kinds.excluded
-        and not hours.get(before)
+        if (before in kinds.weekend) == (day in kinds.weekend) and before not in kinds.excluded
     ]
+
+
+def serving_days(winter, numbers, day):
+    """Those of them that "carry no event at any hour"."""
+    hours = event_hours(numbers)
+    return [before for before in days_of_kind(winter, day) if not hours.get(before)]
 
 
 def reference_days(winter, numbers, day):
@@ -232,29 +238,38 @@ def fault(reading):
     return 22 if reading > HIGHEST_READING else 0
 
 
-def answer(query):
-    """The answer to a query. "20 comes before 21 and 22", and of these "the first fault
-    decides"."""
-    number = refusal(query)
-    if number:
-        return Answer(number)
-    event = query.event()
-    references = reference_days(query.winter, query.numbers, event.day)
+def event_answer(event, references, readings_of):
+    """The answer to an event; `readings_of` gives the readings at pairs (day, hour). "20
+    comes before 21 and 22", and of these "the first fault decides"."""
     if len(references) < REFERENCE_DAYS:
         return Answer(0, code=20)
-    readings = readings_at(query, needed_hours(event, references))
+    readings = readings_of(needed_hours(event, references))
     for pair, reading in readings.items():
         if fault(reading):
             return Answer(0, fault(reading), place_of(*pair))
     return Answer(0, spared=spared_energy(event, references, readings))
 
 
+def answer(query):
+    """The answer to a query."""
+    number = refusal(query)
+    if number:
+        return Answer(number)
+    event = query.event()
+    references = reference_days(query.winter, query.numbers, event.day)
+    return event_answer(event, references, partial(readings_at, query))
+
+
+def energy_of(given):
+    """The energy of an event's line; "an unsettled line has energy 0"."""
+    return eighteenths(given.spared.energy()) if given.spared else 0
+
+
 def printed(given):
-    """An answer as it is printed; "an unsettled line has energy 0"."""
+    """An answer as it is printed."""
     if given.number:
         return str(given.number)
-    energy = eighteenths(given.spared.energy()) if given.spared else 0
-    return winters.joined((0, given.code, given.place, energy))
+    return winters.joined((0, given.code, given.place, energy_of(given)))
 
 
 def line(query):

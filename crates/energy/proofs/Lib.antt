@@ -2,6 +2,7 @@ pub mod Agree
 pub mod CallLaws
 pub mod EnergyBound
 pub mod EventLaws
+pub mod Given
 pub mod HourLaws
 pub mod LineLaws
 pub mod Nearest

@@ -9,7 +9,7 @@ use mathlib.Core.Logic.{_⊎_, inl, inr, ⊎-elim}
 use mathlib.Core.Path.{_≡_, refl, ap, _∙_}
 use native.Mathlib.Nat.{le-of-suc-le-suc, eq-or-lt-of-le, zero-add}
 use native.Mathlib.Omega.{arith}
-use lib.ListN.{length, getD, take, drop, replicate, length-take, List·getD-append}
+use lib.ListN.{length, getD, take, drop, replicate, length-take}
 use lib.Seq.{sets, sets-eq, length-sets}
 use Rattle.laws.proofs.Every.{Every, front, at, imply}
 use Rattle.energy.specs.Held.{heldIn}
@@ -109,7 +109,6 @@ module _ (y : ℕ) (masks : List ℕ) (day : ℕ) where
 pub record HeldDays (ds : List ℕ) : Type 0 where
   pub five-long : length (heldIn ds .days) ≡ 5
   pub counted : heldIn ds .count ≡ length ds
-  pub first-are : (k : ℕ) → k < length ds → getD (heldIn ds .days) k 0 ≡ getD ds k 0
   pub five-are : length ds ≡ 5 → heldIn ds .days ≡ ds
 
 pub held-days : (ds : List ℕ) → length ds ≤ 5 → HeldDays ds
@@ -118,7 +117,6 @@ held-days ds h =
     record {
       five-long = length-sets (replicate 5 0) 0 ds;
       counted = refl;
-      first-are = λ k l. rw split (List·getD-append ds (drop (length ds) (replicate 5 0)) 0 k l);
       five-are = λ e. split ∙ rw (e, append-nil);
     }
   where

@@ -2,19 +2,19 @@
 -- reference days: one law for each turn and for the end.
 -- Assumes nothing.
 use Prim.Native.Nat.{ℕ, zero, suc, _+_, _-_, _≤_, _<_}
-use mathlib.Core.Bool.{Bool, true, false, not, _&&_, Bool·beq}
+use mathlib.Core.Bool.{Bool, true, false, not, cond, _&&_, Bool·beq}
 use mathlib.Core.List.{List, [], _∷_}
 use mathlib.Core.Path.{_≡_, refl, ap, _∙_}
 use native.Mathlib.Numerals.{add-one}
 use native.Mathlib.Omega.{arith}
-use lib.Dec.{ltb}
+use lib.Dec.{ltb, eqb}
 use lib.ListN.{length, getD, take, set, replicate, length-set}
 use lib.Seq.{sets, take-nil}
-use borrow.Author.Tests.{eq-eqb, ne-eqb, ltb-true, ltb-false, lt-ltb}
+use borrow.Author.Tests.{eq-eqb, ne-eqb, eqb-false, ltb-true, ltb-false, lt-ltb}
 use Rattle.calendar.specs.Excluded.{excluded}
 use Rattle.calendar.specs.Weekdays.{weekend}
 use Rattle.laws.proofs.Guards.{both}
-use Rattle.energy.specs.Held.{heldIn}
+use Rattle.energy.specs.Held.{heldIn, pastEvents}
 use Rattle.energy.specs.ReferenceDays.{serves, before, referenceDays}
 use Rattle.energy.specs.declared.reference_days.Refs.{Refs}
 
@@ -108,3 +108,45 @@ module _ (ok : ℕ → Bool) (want days : List ℕ) (count : ℕ) where
 
       all-counted : count ≡ length want
       all-counted = omega (arith, rw (none-left d e) at (s .counted))
+
+-- past the days that carry an event: the same days are found
+
+pub past-here : (masks : List ℕ) (d : ℕ) → 0 < d → getD masks (d - 1) 0 ≡ 0 → d ≡ pastEvents masks d
+unfolding pastEvents
+past-here masks zero h e = absurd (omega arith)
+past-here masks (suc d) h e = let q : suc d - 1 ≡ d = omega arith in rw (eq-eqb (getD masks d 0) 0 (rw q at e))
+
+pub past-next : (masks : List ℕ) (d : ℕ) → 0 < d → (getD masks (d - 1) 0 ≡ 0 → ⊥) → pastEvents masks (d - 1) ≡ pastEvents masks d
+unfolding pastEvents
+past-next masks zero h e = absurd (omega arith)
+past-next masks (suc d) h e = let q : suc d - 1 ≡ d = omega arith in rw (q, ne-eqb (getD masks d 0) 0 (rw q at e))
+
+pub past-none : (masks : List ℕ) (d : ℕ) → d ≤ 0 → 0 ≡ pastEvents masks d
+unfolding pastEvents
+past-none masks zero h = refl
+past-none masks (suc d) h = absurd (omega arith)
+
+pub past-le : (masks : List ℕ) (d : ℕ) → pastEvents masks d ≤ d
+unfolding pastEvents
+past-le masks zero = omega arith
+past-le masks (suc d) = by (eqb (getD masks d 0) 0) (past-le masks d)
+  where
+    by : (b : Bool) → pastEvents masks d ≤ d → cond b (suc d) (pastEvents masks d) ≤ suc d
+    by true h = omega arith
+    by false h = omega arith
+
+module _ (y : ℕ) (masks : List ℕ) (day : ℕ) where
+  before-past : (d : ℕ) → before (serves y masks day) d ≡ before (serves y masks day) (pastEvents masks d)
+  unfolding pastEvents
+  before-past zero = refl
+  before-past (suc d) = by (eqb (getD masks d 0) 0) refl (before-past d)
+    where
+      by : (b : Bool) → eqb (getD masks d 0) 0 ≡ b → before (serves y masks day) d ≡ before (serves y masks day) (pastEvents masks d)
+          → before (serves y masks day) (suc d) ≡ before (serves y masks day) (cond b (suc d) (pastEvents masks d))
+      by true q rest = refl
+      by false q rest = before-no (serves y masks day) d (has-event y masks day d (eqb-false (getD masks d 0) 0 q)) ∙ rest
+
+  pub search-past : (want days : List ℕ) (count d : ℕ) → Search (serves y masks day) want days count d
+      → Search (serves y masks day) want days count (pastEvents masks d)
+  search-past want days count d s =
+      record { room = s .room; size = s .size; stored = rw (before-past d) at (s .stored); counted = rw (before-past d) at (s .counted) }

@@ -1,8 +1,11 @@
--- How the code holds what document 01 has as lists: at most five days, and at most seven hours, each in an array with its count.
+-- How the code holds what document 01 has as lists: at most five days, and at most seven hours, each in an array with its count. And
+-- how it walks over days that carry an event.
 -- Assumes nothing.
-use Prim.Native.Nat.{ℕ, _-_}
+use Prim.Native.Nat.{ℕ, zero, suc, _-_}
+use mathlib.Core.Bool.{cond}
 use mathlib.Core.List.{List}
-use lib.ListN.{length, take, drop, replicate}
+use lib.Dec.{eqb}
+use lib.ListN.{length, getD, take, drop, replicate}
 use lib.Seq.{sets}
 use Rattle.energy.specs.declared.hours.Hours.{Hours}
 use Rattle.energy.specs.declared.reference_days.Refs.{Refs}
@@ -18,3 +21,8 @@ span at from to = take (to - from) (drop from at)
 -- of the hours, the warm-up hours come first, and then the event hours
 abbrev pub hoursIn : Hours → ℕ → ℕ → List ℕ
 hoursIn hours from to = span (hours .at) from to
+
+-- where a search backwards from day d goes on: past the days right before it that carry an event
+unfoldable pub pastEvents : List ℕ → ℕ → ℕ
+pastEvents masks zero = 0
+pastEvents masks (suc d) = cond (eqb (getD masks d 0) 0) (suc d) (pastEvents masks d)

@@ -2,7 +2,7 @@
 ghost use mathlib.Core.Path.{_≡_};
 ghost use Prim.Native.Nat.{_<_};
 ghost use Rattle.energy.specs.ReferenceDays.{serves, referenceDays};
-ghost use Rattle.energy.specs.Held.{heldIn};
+ghost use Rattle.energy.specs.Held.{heldIn, pastEvents};
 
 // Reference days, nearest first: the first `count` of `days`.
 pub struct Refs {
@@ -15,13 +15,28 @@ fn day_serves(winter: u32, masks: &[u32; 152], day: u32, d: u32) -> bool
     requires { ⌜ d < 152 ⌝ }
     ensures { λ r. ⌜ r ≡ serves winter (now (masks .entry)) day d ⌝ }
 {
-    if calendar::is_weekend(winter, d) != calendar::is_weekend(winter, day) {
-        return false;
-    }
     if masks[d as usize] != 0 {
         return false;
     }
+    if calendar::is_weekend(winter, d) != calendar::is_weekend(winter, day) {
+        return false;
+    }
     !calendar::is_excluded(winter, d)
+}
+
+// Past the days right before d that carry an event. They serve no event, and before a late one there are many.
+fn past_events(masks: &[u32; 152], day: u32) -> u32
+    requires { ⌜ day < 152 ⌝ }
+    ensures { λ r. ⌜ r ≡ pastEvents (now (masks .entry)) day ⌝ }
+{
+    let mut d = day;
+    while 0 < d {
+        if masks[(d - 1) as usize] == 0 {
+            return d;
+        }
+        d -= 1;
+    }
+    0
 }
 
 // The five nearest days before the event day that serve, or as many as there are. It stops at the fifth.
@@ -31,13 +46,14 @@ pub(crate) fn nearest(winter: u32, masks: &[u32; 152], day: u32) -> Refs
 {
     let mut days = [0u32; 5];
     let mut count: usize = 0;
-    let mut d = day;
+    let mut d = past_events(masks, day);
     while (0 < d) & (count < 5) {
         d -= 1;
         if day_serves(winter, masks, day, d) {
             days[count] = d;
             count += 1;
         }
+        d = past_events(masks, d);
     }
     Refs { days, count }
 }

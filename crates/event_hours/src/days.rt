@@ -11,17 +11,15 @@ fn marks_none(n: Notice) -> bool
     (152 <= n.day) | (n.end <= n.start) | (24 < n.end)
 }
 
-// The masks with the hours of one notice more.
-fn with_hours(masks: [u32; 152], n: Notice) -> [u32; 152]
-    ensures { λ r. ⌜ r ≡ withHours masks n ⌝ }
+// Marks the hours of one notice more, in the lent masks themselves: no array is copied for a notice.
+fn mark_hours(masks: &mut [u32; 152], n: Notice)
+    ensures { λ _. ⌜ now (masks .exit) ≡ withHours (now (masks .entry)) n ⌝ }
 {
     if marks_none(n) {
-        return masks;
+        return;
     }
-    let mut more = masks;
     let day = n.day as usize;
-    more[day] |= hours_mask(n.start, n.end);
-    more
+    masks[day] |= hours_mask(n.start, n.end);
 }
 
 // The event hours of all days, all zero at first and filled from the notices of a list, whether or not they stand.
@@ -32,8 +30,7 @@ pub fn masks_of(list: &[u32]) -> [u32; 152]
     let mut k: usize = 0;
     while k < list.len() / 3 {
         let n = schedule::notice_at(list, k);
-        let next = with_hours(masks, n);
-        masks = next;
+        mark_hours(&mut masks, n);
         k += 1;
     }
     masks

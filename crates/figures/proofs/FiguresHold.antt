@@ -19,6 +19,10 @@ use Rattle.event_hours.specs.Days.{marksNone, withHours, masksTo, masksOf}
 use Rattle.event_hours.specs.Hours.{hoursMask}
 use Rattle.laws.specs.Answer.{refuse}
 use Rattle.laws.specs.Table.{firstOf, orElse}
+use Rattle.money.specs.Lines.{eventBy, energyTo, centsAt, lineAt, linesTo}
+use Rattle.money.specs.Refusals.{badBook, badPrice, shortOutput, callRows, refusalOf}
+use Rattle.money.specs.Settlement.{settledBy, writtenBy, settlement, written}
+use Rattle.money.specs.Worth.{roundedWorth}
 use Rattle.schedule.specs.ListCheck.{ownRows, listRows, noticeRows, noticeAnswer, sofarAt, answerAt, fromNotice, badList, listAnswer, checkAnswer}
 use Rattle.schedule.specs.Notices.{noticeAt, hoursOf, hoursTo}
 use Rattle.schedule.specs.Profiles.{figuresOf, named}
@@ -27,8 +31,9 @@ use Rattle.figures.specs.CalendarFigures.{alsoFrom, alsoExcluded, calend
 use Rattle.figures.specs.EnergyFigures.{sampleDay, sampleBook, sampleList, energyFigures}
 use Rattle.figures.specs.Figure.{Figure}
 use Rattle.figures.specs.Figures.{figures}
+use Rattle.figures.specs.MoneyFigures.{moneyFigures}
 use Rattle.figures.specs.ScheduleFigures.{mornings, hundredHours, scheduleFigures}
 
 pub figures-hold : map (λ (f : Figure). f .paper) figures ≡ map (λ (f : Figure). f .computed) figures
-unfolding calendarFigures alsoExcluded alsoFrom easterSunday refuse noEasterYear easterT easterInBook among goodFriday easterMonday excluded leap days noDay scheduleFigures mornings hundredHours checkAnswer listAnswer badList fromNotice answerAt noticeAnswer noticeRows ownRows listRows firstOf orElse sofarAt noticeAt hoursOf hoursTo named figuresOf outsidePeriod excludedDay barredWeekend outsideBands badHours badLength startsBefore sameBand overLimit noWinter inPeriod firstWeekday weekday weekend energyFigures sampleDay sampleBook sampleList eventAnswer lineOf askedBy warmUp hoursFrom needed placesOn firstFault faultOf energyOf sumOver trimmedAt trimmedOf sumOf smallestOf largestOf sparedOf aboveLimit trialOf referenceDays before serves masksOf masksTo withHours marksNone hoursMask
+unfolding calendarFigures alsoExcluded alsoFrom easterSunday refuse noEasterYear easterT easterInBook among goodFriday easterMonday excluded leap days noDay scheduleFigures mornings hundredHours checkAnswer listAnswer badList fromNotice answerAt noticeAnswer noticeRows ownRows listRows firstOf orElse sofarAt noticeAt hoursOf hoursTo named figuresOf outsidePeriod excludedDay barredWeekend outsideBands badHours badLength startsBefore sameBand overLimit noWinter inPeriod firstWeekday weekday weekend energyFigures sampleDay sampleBook sampleList eventAnswer lineOf askedBy warmUp hoursFrom needed placesOn firstFault faultOf energyOf sumOver trimmedAt trimmedOf sumOf smallestOf largestOf sparedOf aboveLimit trialOf referenceDays before serves masksOf masksTo withHours marksNone hoursMask moneyFigures settlement settledBy written writtenBy refusalOf callRows badBook badPrice shortOutput linesTo lineAt centsAt energyTo eventBy roundedWorth
 figures-hold = refl

@@ -4,7 +4,8 @@ use mathlib.Core.List.{List, _++_}
 use Rattle.figures.specs.CalendarFigures.{calendarFigures}
 use Rattle.figures.specs.EnergyFigures.{energyFigures}
 use Rattle.figures.specs.Figure.{Figure}
+use Rattle.figures.specs.MoneyFigures.{moneyFigures}
 use Rattle.figures.specs.ScheduleFigures.{scheduleFigures}
 
 abbrev pub figures : List Figure
-figures = calendarFigures ++ (scheduleFigures ++ energyFigures)
+figures = calendarFigures ++ (scheduleFigures ++ (energyFigures ++ moneyFigures))

@@ -2,4 +2,5 @@ pub mod Figure
 pub mod CalendarFigures
 pub mod ScheduleFigures
 pub mod EnergyFigures
+pub mod MoneyFigures
 pub mod Figures

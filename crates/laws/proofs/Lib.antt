@@ -4,4 +4,5 @@ pub mod Guards
 pub mod ReadBack
 pub mod Refusals
 pub mod Same
+pub mod Stores
 pub mod Tables

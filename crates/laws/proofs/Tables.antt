@@ -1,11 +1,14 @@
--- Laws of tables of refusals: a table accepts exactly when no row is broken, and what it refuses is its first broken row.
+-- Laws of tables of refusals: a table accepts exactly when no row is broken, what it refuses is its first broken row, and numbers and
+-- places stay within those of the rows.
 -- Assumes nothing.
 use Prim.Native.Nat.{ℕ, _≤_}
-use mathlib.Core.Bool.{Bool, true, false}
+use mathlib.Core.Bool.{Bool, true, false, true≢false}
 use mathlib.Core.List.{List, [], _∷_, _++_}
-use mathlib.Core.Path.{_≡_, refl, ap}
+use mathlib.Core.Logic.{_⊎_, inl, inr}
+use mathlib.Core.Path.{_≡_, refl, sym, ap, _∙_}
 use native.Mathlib.Omega.{arith}
 use lib.Dec.{eqb}
+use lib.ListN.{getD}
 use borrow.Author.Tests.{eqb-true, ne-eqb, not-false}
 use Rattle.laws.specs.Answer.{Answer, refuse}
 use Rattle.laws.specs.Table.{accepted, refusalAt, Row, row, firstOf, isRefusal, orElse}
@@ -93,16 +96,21 @@ pub else-go : (a b : Answer) {x : Answer} → isRefusal a ≡ false → x ≡ b 
 unfolding orElse
 else-go a b e q = kept a e q
 
-pub else-accepted : (a b : Answer) → orElse a b ≡ accepted → (isRefusal a ≡ false) × (b ≡ accepted)
+pub else-none : (a b : Answer) → isRefusal (orElse a b) ≡ false → (isRefusal a ≡ false) × (isRefusal b ≡ false)
 unfolding orElse refuse
-else-accepted a b e = by (isRefusal a) refl e
+else-none a b e = by (isRefusal a) refl e
   where
-    by : (t : Bool) → isRefusal a ≡ t → refuse t a b ≡ accepted → (isRefusal a ≡ false) × (b ≡ accepted)
-    by true q e = let z : isRefusal a ≡ false = ap isRefusal e in (z, absurd (clash q z))
-      where
-        clash : isRefusal a ≡ true → isRefusal a ≡ false → ⊥
-        clash p r = let z : _≡_ {A = ℕ} 0 1 = cc in omega arith
+    by : (t : Bool) → isRefusal a ≡ t → isRefusal (refuse t a b) ≡ false → (isRefusal a ≡ false) × (isRefusal b ≡ false)
+    by true q e = absurd (true≢false (sym q ∙ e))
     by false q e = (q, e)
+
+pub else-accepted : (a b : Answer) → orElse a b ≡ accepted → (isRefusal a ≡ false) × (b ≡ accepted)
+else-accepted a b e = let p = else-none a b (ap isRefusal e) in (p .0, else-go a b (p .0) refl ∙ e)
+
+pub refuse-none : (b : Bool) (n place : ℕ) (rest : Answer) → 1 ≤ n → isRefusal (refuse b (refusalAt n place) rest) ≡ false → (b ≡ false) × (isRefusal rest ≡ false)
+unfolding refuse
+refuse-none true n place rest h e = let z : n ≡ 0 = eqb-true n 0 (not-false (eqb n 0) e) in absurd (omega arith)
+refuse-none false n place rest h e = (refl, e)
 
 -- a table's answer that is no refusal accepts
 module _ (place : ℕ) where
@@ -129,3 +137,31 @@ module _ (place : ℕ) where
   unfolding firstOf
   in-parts [] more n = else-go accepted (firstOf place more) refl refl
   in-parts (r ∷ rows) more n = part-here r rows more (n .0) (in-parts rows more (n .1)) (r .broken)
+
+-- an answer of two: the first where it refuses, else the second
+pub else-either : (a b : Answer) → ((isRefusal a ≡ true) × (orElse a b ≡ a)) ⊎ ((isRefusal a ≡ false) × (orElse a b ≡ b))
+else-either a b = by (isRefusal a) refl
+  where
+    by : (t : Bool) → isRefusal a ≡ t → ((isRefusal a ≡ true) × (orElse a b ≡ a)) ⊎ ((isRefusal a ≡ false) × (orElse a b ≡ b))
+    by true q = inl (q, sym (else-stop a b q))
+    by false q = inr (q, sym (else-go a b q refl))
+
+-- bounds: numbers up to m, places up to p
+
+abbrev pub Within : ℕ → ℕ → Answer → Type 0
+Within m p a = (a .number ≤ m) × (getD (a .values) 0 0 ≤ p)
+
+module _ (m p : ℕ) where
+  pub within-refuse : (b : Bool) (a rest : Answer) → Within m p a → Within m p rest → Within m p (refuse b a rest)
+  unfolding refuse
+  within-refuse true a rest h g = h
+  within-refuse false a rest h g = g
+
+  pub within-else : (a b : Answer) → Within m p a → Within m p b → Within m p (orElse a b)
+  unfolding orElse
+  within-else a b h g = within-refuse (isRefusal a) a b h g
+
+  pub within-first : (place : ℕ) (rows : List Row) → place ≤ p → Every (λ (r : Row). r .number ≤ m) rows → Within m p (firstOf place rows)
+  unfolding firstOf
+  within-first place [] h e = (omega arith, omega arith)
+  within-first place (r ∷ rows) h e = within-refuse (r .broken) (refusalAt (r .number) place) (firstOf place rows) (e .0, h) (within-first place rows h (e .1))

@@ -2,7 +2,7 @@
 -- The walk accepts exactly when no notice is refused, by recursion on how many are left.
 -- Assumes nothing.
 use Prim.Native.Nat.{ℕ, zero, suc, _+_, _-_, _/_, _%_, _≤_, _<_}
-use mathlib.Core.Bool.{false}
+use mathlib.Core.Bool.{false, true≢false}
 use mathlib.Core.List.{List}
 use mathlib.Core.Logic.{⊎-elim, inl, _↔_}
 use mathlib.Core.Path.{_≡_, refl, sym, ap}
@@ -13,14 +13,15 @@ use borrow.Author.Tests.{eq-eqb, le-ltb}
 use Rattle.calendar.proofs.Promise.{winter-range}
 use Rattle.calendar.specs.Winters.{noWinter}
 use Rattle.laws.proofs.Refusals.{kept}
-use Rattle.laws.proofs.Tables.{refuse-accepted, else-go, else-accepted}
+use Rattle.laws.proofs.Tables.{refuse-accepted, refuse-none, else-go, else-none, else-accepted}
 use Rattle.laws.specs.Table.{accepted, refusalAt, isRefusal}
-use Rattle.schedule.specs.ListCheck.{sofarAt, answerAt, fromNotice, badList, listAnswer, checkAnswer}
+use Rattle.schedule.specs.ListCheck.{sofarAt, answerAt, fromNotice, badList, listAnswer, namedAnswer, checkAnswer}
 use Rattle.schedule.specs.Notices.{countOf, noNotice, noticeAt, hoursOf, hoursTo}
 use Rattle.schedule.specs.Profiles.{figuresOf, profileNumber, named}
 use Rattle.schedule.specs.declared.notices.Notice.{Notice}
 use Rattle.schedule.specs.declared.profiles.Figures.{Figures}
-use Rattle.schedule.specs.declared.profiles.Named.the-variants.{Is}
+use Rattle.schedule.specs.declared.profiles.Named.the-variants.{Is, NoProfile}
+use Rattle.schedule.specs.declared.profiles.Named.{Named}
 use Rattle.schedule.specs.declared.profiles.Profile.the-variants.{Credit, PowerOption}
 use Rattle.schedule.specs.declared.profiles.Profile.{Profile}
 use Rattle.schedule.specs.declared.rules.Sofar.{Sofar}
@@ -130,7 +131,7 @@ module _ (w : ℕ) (f : Figures) (l : List ℕ) where
 
 -- the whole call
 
-whole-test : (n : ℕ) → n % 3 ≡ 0 → n / 3 ≤ 100 → badList n ≡ false
+pub whole-test : (n : ℕ) → n % 3 ≡ 0 → n / 3 ≤ 100 → badList n ≡ false
 unfolding badList
 whole-test n a b = rw (eq-eqb (n % 3) 0 a) (le-ltb 300 n (omega arith))
 
@@ -168,3 +169,27 @@ accepted-iff-lawful w p l =
       λ e. let q = refuse-accepted (noWinter w) 1 0 (listAnswer w (figuresOf p) l) (omega arith) e in list-lawful w (figuresOf p) l (q .0) (q .1),
       λ r. sym (kept (refusalAt 1 0) (winter-range w .1 (r .winter)) (sym (lawful-list w (figuresOf p) l r))),
     )
+
+-- a list that is not refused is accepted
+
+from-accepted : (w : ℕ) (f : Figures) (l : List ℕ) (left k : ℕ) → isRefusal (fromNotice w f l left k) ≡ false → fromNotice w f l left k ≡ accepted
+unfolding fromNotice
+from-accepted w f l zero k e = refl
+from-accepted w f l (suc left) k e =
+    let p = else-none (answerAt w f l k) (fromNotice w f l left (suc k)) e in
+    sym (else-go (answerAt w f l k) (fromNotice w f l left (suc k)) (p .0) (sym (from-accepted w f l left (suc k) (p .1))))
+
+list-accepted : (w : ℕ) (f : Figures) (l : List ℕ) → isRefusal (listAnswer w f l) ≡ false → listAnswer w f l ≡ accepted
+unfolding listAnswer
+list-accepted w f l e =
+    let p = refuse-none (badList (length l)) 4 0 (fromNotice w f l (countOf l) 0) (omega arith) e in
+    sym (kept (refusalAt 4 0) (p .0) (sym (from-accepted w f l (countOf l) 0 (p .1))))
+
+pub check-accepted : (w q : ℕ) (l : List ℕ) → isRefusal (checkAnswer w q l) ≡ false → checkAnswer w q l ≡ accepted
+unfolding checkAnswer
+check-accepted w q l e =
+    let p = refuse-none (noWinter w) 1 0 (namedAnswer w (named q) l) (omega arith) e in sym (kept (refusalAt 1 0) (p .0) (sym (by (named q) (p .1))))
+  where
+    by : (x : Named) → isRefusal (namedAnswer w x l) ≡ false → namedAnswer w x l ≡ accepted
+    by (Is p) e = list-accepted w (figuresOf p) l e
+    by NoProfile e = absurd (true≢false e)

@@ -1,4 +1,5 @@
 pub mod Accepted
+pub mod Bounds
 pub mod FirstRefusal
 pub mod Lawful
 pub mod RuleLaws

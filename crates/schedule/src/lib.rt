@@ -5,6 +5,7 @@ mod profiles;
 mod rules;
 mod verdicts;
 
+pub use list_check::bad_list;
 pub use list_check::check;
 pub use notices::Notice;
 pub use notices::notice_at;

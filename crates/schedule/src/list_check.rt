@@ -4,12 +4,12 @@ ghost use Prim.Native.Nat.{_≤_};
 ghost use lib.ListN.{length};
 ghost use Rattle.laws.specs.Table.{firstOf};
 ghost use Rattle.schedule.specs.Verdicts.{verdictPaper};
-ghost use Rattle.schedule.specs.Notices.{hoursOf};
+ghost use Rattle.schedule.specs.Notices.{countOf, hoursOf};
 ghost use Rattle.schedule.specs.ListCheck.{ownRows, listRows, noticeAnswer, nothingBefore, afterNotice, fromNotice, badList, listAnswer, checkAnswer};
 ghost use Rattle.schedule.specs.Sane.{Sane};
 use crate::notices::Notice;
 use crate::notices::hours_of;
-use crate::notices::notice_at;
+use crate::notices::notice_in;
 use crate::profiles::Figures;
 use crate::profiles::Named;
 use crate::profiles::profile_named;
@@ -103,13 +103,13 @@ fn after_notice(so: Sofar, n: Notice) -> Sofar
 
 // The first refusal among the notices of a list.
 fn check_notices(winter: u32, f: Figures, list: &[u32], count: usize) -> Verdict
-    requires { ⌜ Sane f × (count ≤ 100) ⌝ }
+    requires { ⌜ Sane f × (count ≤ 100) × (count ≤ countOf (now list)) ⌝ }
     ensures { λ r. ⌜ verdictPaper r ≡ fromNotice winter f (now (list .entry)) count 0 ⌝ }
 {
     let mut so = nothing_before();
     let mut k: usize = 0;
     while k < count {
-        let n = notice_at(list, k);
+        let n = notice_in(list, k);
         let verdict = notice_verdict(winter, f, so, n, k as u32);
         if is_refused(verdict) {
             return verdict;
@@ -121,8 +121,8 @@ fn check_notices(winter: u32, f: Figures, list: &[u32], count: usize) -> Verdict
     Verdict::Accepted
 }
 
-// 4: the list is not whole triples, or more than 100.
-fn bad_list(length: usize) -> bool
+// Rule 4: whether a list of so many numbers is not whole triples, or more than 100.
+pub fn bad_list(length: usize) -> bool
     ensures { λ r. ⌜ r ≡ badList length ⌝ }
 {
     (length % 3 != 0) | (300 < length)

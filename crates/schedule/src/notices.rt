@@ -1,12 +1,25 @@
 // The notices of a list.
 ghost use mathlib.Core.Path.{_≡_};
-ghost use Rattle.schedule.specs.Notices.{noticeAt, hoursOf};
+ghost use Prim.Native.Nat.{_<_};
+ghost use Rattle.schedule.specs.Notices.{countOf, noticeAt, hoursOf};
 
 // A notice: its hours are those from start to end - 1 of its day.
 pub struct Notice {
     pub day: u32,
     pub start: u32,
     pub end: u32,
+}
+
+// The notice at index k, which the list has.
+pub(crate) fn notice_in(list: &[u32], k: usize) -> Notice
+    requires { ⌜ k < countOf (now list) ⌝ }
+    ensures { λ r. ⌜ r ≡ noticeAt (now (list .entry)) k ⌝ }
+{
+    let at = k * 3;
+    let day = list[at];
+    let start = list[at + 1];
+    let end = list[at + 2];
+    Notice { day, start, end }
 }
 
 // The notice at index k of a list of triples; past the last whole triple, a notice of no hours on day 0.
@@ -20,11 +33,7 @@ pub fn notice_at(list: &[u32], k: usize) -> Notice
             end: 0,
         };
     }
-    let at = k * 3;
-    let day = list[at];
-    let start = list[at + 1];
-    let end = list[at + 2];
-    Notice { day, start, end }
+    notice_in(list, k)
 }
 
 // How many hours a notice has; none where its end is not after its start.

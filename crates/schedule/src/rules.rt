@@ -30,7 +30,10 @@ pub(crate) fn excluded_day(winter: u32, n: Notice) -> bool
 pub(crate) fn barred_weekend(f: Figures, winter: u32, n: Notice) -> bool
     ensures { λ r. ⌜ r ≡ barredWeekend f winter n ⌝ }
 {
-    !f.weekends & calendar::is_weekend(winter, n.day)
+    if f.weekends {
+        return false;
+    }
+    calendar::is_weekend(winter, n.day)
 }
 
 // The hours are not inside one band.
@@ -60,14 +63,20 @@ pub(crate) fn bad_length(f: Figures, n: Notice) -> bool
 pub(crate) fn starts_before(last: Notice, n: Notice) -> bool
     ensures { λ r. ⌜ r ≡ startsBefore last n ⌝ }
 {
-    (n.day < last.day) | ((n.day == last.day) & (n.start < last.end))
+    if last.day < n.day {
+        return false;
+    }
+    (n.day < last.day) | (n.start < last.end)
 }
 
 // 16: the same day and band as the notice before it. The evening band starts where the second half of the day's hours does.
 pub(crate) fn same_band(last: Notice, n: Notice) -> bool
     ensures { λ r. ⌜ r ≡ sameBand last n ⌝ }
 {
-    (last.day == n.day) & ((last.start < Profile::EVENING) == (n.start < Profile::EVENING))
+    if last.day != n.day {
+        return false;
+    }
+    (last.start < Profile::EVENING) == (n.start < Profile::EVENING)
 }
 
 // 18: the total hours pass the winter's limit with this notice. In 64 bits no sum wraps.

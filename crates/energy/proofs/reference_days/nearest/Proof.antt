@@ -1,11 +1,12 @@
 -- `nearest` finds the reference days: the five nearest days that serve, or as many as there are.
 -- The invariant: with `count` of them stored, the others are the nearest days before d that serve.
 -- Assumes nothing.
-use Prim.Native.Nat.{_≤_}
+use Prim.Native.Nat.{_≤_, _-_}
+use mathlib.Core.Logic.{⊎-elim}
 use mathlib.Core.Path.{sym, _∙_}
 use native.Mathlib.Omega.{arith}
 use Rattle.energy.specs.ReferenceDays.{serves, referenceDays}
-use Rattle.energy.proofs.ReferenceLaws.{Search, goes-on, search-start, search-took, search-passed, search-ends}
+use Rattle.energy.proofs.ReferenceLaws.{Search, goes-on, search-start, search-took, search-passed, search-ends, search-past, past-le}
 use Rattle.energy.proofs.reference_days.nearest.Statement.{statement}
 use Rattle.energy.proofs.reference_days.nearest.Tie as tie
 
@@ -15,8 +16,13 @@ Inv-loop winter masks day days₀ count₀ d₀ days count d = (d ≤ day) × Se
 abbrev μ-loop : tie.MeasureT-loop
 μ-loop winter masks day days₀ count₀ d₀ days count d = d
 
+past-events-requires : tie.Need-past-events-requires Inv-loop μ-loop
+past-events-requires c κs = omega arith
+
 loop-holds : tie.Need-loop-holds Inv-loop μ-loop
-loop-holds c = (omega arith, search-start _ _ _)
+loop-holds c =
+    let a = c .before .args in
+    rw (c .past-events .ensures) (past-le (a .masks .now) (a .day), search-past _ _ _ _ _ _ (a .day) (search-start _ _ _))
 
 sub-d : tie.Need-sub-d Inv-loop μ-loop
 sub-d c = omega (arith, goes-on (c .before .loop .d) (c .before .loop .count) (c .loop-test .taken))
@@ -39,27 +45,31 @@ add-count c =
     let l = c .before .before .before .loop in
     omega (arith, goes-on (l .d) (l .count) (c .before .before .loop-test .taken))
 
-loop-less : tie.Need-loop-less Inv-loop μ-loop
-loop-less c =
+past-events-requires-2 : tie.Need-past-events-requires-2 Inv-loop μ-loop
+past-events-requires-2 c κs =
     let l = c .before .before .before .loop in
     omega (arith, goes-on (l .d) (l .count) (c .before .before .loop-test .taken))
+
+loop-less : tie.Need-loop-less Inv-loop μ-loop
+loop-less c =
+    let t = c .before .before .before in
+    let l = t .before .loop in
+    omega (arith, goes-on (l .d) (l .count) (t .loop-test .taken), c .past-events2 .ensures, past-le (t .before .before .before .args .masks .now) (l .d - 1))
 
 loop-again : tie.Need-loop-again Inv-loop μ-loop
 loop-again c =
-    let l = c .before .before .before .loop in
-    let g = goes-on (l .d) (l .count) (c .before .before .loop-test .taken) in
-    (omega arith, search-took _ _ (l .days) (l .count) (l .d) g (sym (c .before .day-serves .ensures) ∙ c .if1 .taken) (l .inv .1))
-
-loop-less-2 : tie.Need-loop-less-2 Inv-loop μ-loop
-loop-less-2 c =
-    let l = c .before .before .before .loop in
-    omega (arith, goes-on (l .d) (l .count) (c .before .before .loop-test .taken))
-
-loop-again-2 : tie.Need-loop-again-2 Inv-loop μ-loop
-loop-again-2 c =
-    let l = c .before .before .before .loop in
-    let g = goes-on (l .d) (l .count) (c .before .before .loop-test .taken) in
-    (omega arith, search-passed _ _ (l .days) (l .count) (l .d) g (sym (c .before .day-serves .ensures) ∙ c .if1 .left) (l .inv .1))
+    let s = c .before .before in
+    let l = s .before .before .loop in
+    let a = s .before .before .before .before .args in
+    let g = goes-on (l .d) (l .count) (s .before .loop-test .taken) in
+    rw (c .past-events2 .ensures) (
+      omega (arith, past-le (a .masks .now) (l .d - 1)),
+      search-past _ _ _ _ _ _ (l .d - 1)
+          (⊎-elim
+          (λ w. rw (w .1, w .2) (search-took _ _ (l .days) (l .count) (l .d) g (sym (s .day-serves .ensures) ∙ w .0 .taken) (l .inv .1)))
+          (λ w. rw (w .1, w .2) (search-passed _ _ (l .days) (l .count) (l .d) g (sym (s .day-serves .ensures) ∙ w .0 .left) (l .inv .1)))
+          (c .before .if1 .came)),
+    )
 
 returns : tie.Need-returns Inv-loop μ-loop
 returns c =
@@ -72,14 +82,14 @@ nearest-spec =
     (tie.spec
     Inv-loop
     μ-loop
+    past-events-requires
     loop-holds
     sub-d
     day-serves-requires
     mul-days
     array-write-days
     add-count
+    past-events-requires-2
     loop-less
     loop-again
-    loop-less-2
-    loop-again-2
     returns)

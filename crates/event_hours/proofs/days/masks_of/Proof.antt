@@ -23,8 +23,8 @@ loop-holds c = (omega arith, masks-none (c .before .args .list .now))
 notice-at-requires : tie.Need-notice-at-requires Inv-loop μ-loop
 notice-at-requires c κs = search needs
 
-with-hours-requires : tie.Need-with-hours-requires Inv-loop μ-loop
-with-hours-requires c κs = search needs
+mark-hours-requires : tie.Need-mark-hours-requires Inv-loop μ-loop
+mark-hours-requires c κs = search needs
 
 add-k : tie.Need-add-k Inv-loop μ-loop
 add-k c = search needs
@@ -33,10 +33,10 @@ loop-less : tie.Need-loop-less Inv-loop μ-loop
 loop-less c = search needs
 
 loop-again : tie.Need-loop-again Inv-loop μ-loop
-loop-again c = (
-  omega arith,
-  masks-next (c .before .before .before .before .before .args .list .now) (c .before .before .before .loop .k) (c .before .before .before .loop .inv .1) (c .before .notice-at .ensures) (c .with-hours .ensures),
-)
+loop-again c =
+    let n = c .before .before in
+    let l = n .before .before in
+    (omega arith, masks-next (l .before .before .args .list .now) (l .loop .k) (l .loop .inv .1) (n .notice-at .ensures) (c .mark-hours .ensures))
 
 returns : tie.Need-returns Inv-loop μ-loop
 returns c = masks-all _ (c .before .loop .k) (c .before .loop .inv .1) (omega arith)
@@ -49,7 +49,7 @@ masks-of-spec =
     μ-loop
     loop-holds
     notice-at-requires
-    with-hours-requires
+    mark-hours-requires
     add-k
     loop-less
     loop-again

@@ -1,5 +1,6 @@
 -- `check_list` answers 4 for a bad list, else by its notices.
 -- Assumes nothing.
+use native.Mathlib.Omega.{arith}
 use borrow.Author.Needs.{needs}
 use Rattle.laws.proofs.Guards.{found}
 use Rattle.laws.proofs.Refusals.{refused, kept}
@@ -16,7 +17,7 @@ unfolding listAnswer
 returns c = refused _ _ (found (c .before .bad-list .ensures) (c .if1 .taken))
 
 check-notices-requires : tie.Need-check-notices-requires
-check-notices-requires c κs = (c .before .before .before .pre, list-fits _ (found (c .before .bad-list .ensures) (c .if1 .left)) .1)
+check-notices-requires c κs = (c .before .before .before .pre, list-fits _ (found (c .before .bad-list .ensures) (c .if1 .left)) .1, omega arith)
 
 returns-2 : tie.Need-returns-2
 unfolding listAnswer

@@ -1,7 +1,7 @@
--- `notice_at` reads the three numbers of a whole triple, which lie in the list; past the last one it gives no notice.
+-- `notice_at` gives the notice that the list has, and no notice past the last one.
 -- Assumes nothing.
 use borrow.Author.Needs.{needs}
-use borrow.Author.Tests.{le-ltb, lt-ltb}
+use borrow.Author.Tests.{le-ltb}
 use Rattle.schedule.specs.Notices.{noticeAt}
 use Rattle.schedule.proofs.notices.notice_at.Statement.{statement}
 use Rattle.schedule.proofs.notices.notice_at.Tie as tie
@@ -10,49 +10,11 @@ returns : tie.Need-returns
 unfolding noticeAt
 returns c = rw (le-ltb _ _ (c .if1 .taken))
 
-mul-at : tie.Need-mul-at
-mul-at c = search needs
-
-mul-day : tie.Need-mul-day
-mul-day c = search needs
-
-shared-slice-read-day : tie.Need-shared-slice-read-day
-shared-slice-read-day c = search needs
-
-add-start : tie.Need-add-start
-add-start c = search needs
-
-mul-start : tie.Need-mul-start
-mul-start c = search needs
-
-shared-slice-read-start : tie.Need-shared-slice-read-start
-shared-slice-read-start c = search needs
-
-add-end : tie.Need-add-end
-add-end c = search needs
-
-mul-end : tie.Need-mul-end
-mul-end c = search needs
-
-shared-slice-read-end : tie.Need-shared-slice-read-end
-shared-slice-read-end c = search needs
+notice-in-requires : tie.Need-notice-in-requires
+notice-in-requires c κs = search needs
 
 returns-2 : tie.Need-returns-2
-unfolding noticeAt
-returns-2 c = rw (lt-ltb _ _ (c .before .before .before .if1 .left))
+returns-2 c = c .notice-in .ensures
 
 pub notice-at-spec : {M : Type 1} → statement M
-notice-at-spec =
-    tie.close
-    (tie.spec
-    returns
-    mul-at
-    mul-day
-    shared-slice-read-day
-    add-start
-    mul-start
-    shared-slice-read-start
-    add-end
-    mul-end
-    shared-slice-read-end
-    returns-2)
+notice-at-spec = tie.close (tie.spec returns notice-in-requires returns-2)

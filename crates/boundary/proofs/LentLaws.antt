@@ -1,0 +1,94 @@
+-- Laws of lent bytes: how many numbers they are, and that the list check answers the same on what was read of a list.
+-- Assumes nothing.
+use Prim.Native.Nat.{ℕ, _*_, _/_, _%_, _≤_}
+use mathlib.Core.Bool.{Bool, true, false, cond, true≢false}
+use mathlib.Core.List.{List, [], _∷_}
+use mathlib.Core.Logic.{⊎-elim}
+use mathlib.Core.Path.{_≡_, refl, sym, ap, _∙_}
+use native.Mathlib.Omega.{arith}
+use lib.Dec.{eqb}
+use lib.ListN.{length}
+use borrow.Author.Tests.{eq-eqb, eqb-true}
+use Rattle.calendar.proofs.Promise.{days-two}
+use Rattle.calendar.specs.Winters.{days}
+use Rattle.money.proofs.RefusalLaws.{Sound}
+use Rattle.schedule.proofs.Bounds.{bad-lists-alike, one-is-bad}
+use Rattle.schedule.proofs.Walk.{list-fits}
+use Rattle.schedule.specs.ListCheck.{badList, checkAnswer}
+use Rattle.wire.proofs.ReadLaws.{numbers-long, read-whole, read-long}
+use Rattle.wire.specs.Bytes.{numbersTo, numbersRead}
+use Rattle.boundary.specs.Lent.{numbersIn, decoded, listRoom}
+use Rattle.boundary.specs.Whole.{Lengths}
+
+pub decoded-long : (bytes : List ℕ) → length (decoded bytes) ≡ numbersIn (length bytes)
+unfolding decoded numbersIn
+decoded-long bytes = by (eqb (length bytes % 4) 0)
+  where
+    by : (b : Bool) → length (cond b (numbersTo bytes (length bytes / 4)) (0 ∷ [])) ≡ cond b (length bytes / 4) 1
+    by true = numbers-long bytes (length bytes / 4)
+    by false = refl
+
+pub decoded-whole : (bytes : List ℕ) → length bytes % 4 ≡ 0 → decoded bytes ≡ numbersTo bytes (length bytes / 4)
+unfolding decoded
+decoded-whole bytes e = rw (eq-eqb (length bytes % 4) 0 e)
+
+-- bytes that are not taken for one number are whole numbers
+pub whole-numbers : (n : ℕ) → (numbersIn n ≡ 1 → ⊥) → (n % 4 ≡ 0) × (numbersIn n ≡ n / 4)
+unfolding numbersIn
+whole-numbers n f = by (eqb (n % 4) 0) refl f
+  where
+    by : (b : Bool) → eqb (n % 4) 0 ≡ b → (cond b (n / 4) 1 ≡ 1 → ⊥) → (n % 4 ≡ 0) × (cond b (n / 4) 1 ≡ n / 4)
+    by true q f = (eqb-true (n % 4) 0 q, refl)
+    by false q f = absurd (f refl)
+
+good-numbers : (n : ℕ) → badList (numbersIn n) ≡ false → (n % 4 ≡ 0) × (numbersIn n ≡ n / 4)
+good-numbers n e = whole-numbers n (λ (o : numbersIn n ≡ 1). true≢false (sym one-is-bad ∙ sym (ap badList o) ∙ e))
+
+-- the list check: what was read of a list, with as much room as is taken
+
+room-cases : (n : ℕ) (b : Bool) → badList (numbersIn n) ≡ b → listRoom n ≡ cond b 1 (numbersIn n)
+unfolding listRoom
+room-cases n b e = rw e
+
+pub room-few : (n : ℕ) → listRoom n ≤ 300
+room-few n = by (badList (numbersIn n)) refl
+  where
+    by : (b : Bool) → badList (numbersIn n) ≡ b → listRoom n ≤ 300
+    by true q = omega (arith, room-cases n true q)
+    by false q = let f = list-fits (numbersIn n) q in omega (arith, room-cases n false q)
+
+pub read-checks : (w profile : ℕ) (list numbers : List ℕ) → length numbers ≡ listRoom (length list)
+    → checkAnswer w profile (numbersRead list numbers) ≡ checkAnswer w profile (decoded list)
+read-checks w profile list numbers e = by (badList (numbersIn (length list))) refl
+  where
+    by : (b : Bool) → badList (numbersIn (length list)) ≡ b → checkAnswer w profile (numbersRead list numbers) ≡ checkAnswer w profile (decoded list)
+    by true q =
+        let one : length (numbersRead list numbers) ≡ 1 = read-long list numbers ∙ e ∙ room-cases (length list) true q in
+        bad-lists-alike w profile (numbersRead list numbers) (decoded list) (ap badList one ∙ one-is-bad) (ap badList (decoded-long list) ∙ q)
+    by false q =
+        let g = good-numbers (length list) q in
+        rw (read-whole list numbers (e ∙ room-cases (length list) false q ∙ g .1), decoded-whole list (g .0))
+
+-- the settlement: lengths that are not refused are of whole numbers, and there is room for them
+pub record Right (book list out : ℕ) : Type 0 where
+  pub book-whole : book % 4 ≡ 0
+  pub list-whole : list % 4 ≡ 0
+  pub lines-fit : 4 * (list / 4 / 3) ≤ out / 8
+  pub lengths : Lengths book list out
+
+pub right-lengths : (w p book list out : ℕ) → Sound w (numbersIn book) p (numbersIn list) (out / 8) → Right book list out
+right-lengths w p book list out s =
+    let most : days w ≤ 152 = ⊎-elim (λ (e : days w ≡ 151). omega arith) (λ (e : days w ≡ 152). omega arith) (days-two w) in
+    let some : 151 ≤ days w = ⊎-elim (λ (e : days w ≡ 151). omega arith) (λ (e : days w ≡ 152). omega arith) (days-two w) in
+    let b = whole-numbers book (λ (o : numbersIn book ≡ 1). let h = s .book in omega arith) in
+    let l = whole-numbers list (λ (o : numbersIn list ≡ 1). let h = s .whole in omega arith) in
+    let hours = s .book in
+    let few = s .few in
+    let whole = s .whole in
+    let room : 4 * (list / 4 / 3) ≤ out / 8 = rw (← l .1) (s .room-for) in
+    record {
+      book-whole = b .0;
+      list-whole = l .0;
+      lines-fit = room;
+      lengths = record { hours = omega (arith, b .1); notices = omega (arith, l .1); room-for = omega arith };
+    }

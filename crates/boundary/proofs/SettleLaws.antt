@@ -1,0 +1,100 @@
+-- Laws of the settlement on bytes, one for each way out: refused by its lengths, refused by its notices, or settled.
+-- Assumes nothing.
+use Prim.Native.Nat.{ℕ, _*_, _/_, _≤_}
+use mathlib.Core.List.{List}
+use mathlib.Core.Path.{_≡_, sym, ap, _∙_}
+use native.Mathlib.Omega.{arith}
+use lib.ListN.{length}
+use borrow.Author.Tests.{eq-eqb, ne-eqb}
+use Rattle.laws.specs.Table.{refusalAt, firstOf}
+use Rattle.money.proofs.RefusalLaws.{call-sound}
+use Rattle.money.proofs.SettlementLaws.{number-is, settled-accepted, settlement-within, call-refused, settled-room, written-just}
+use Rattle.money.specs.Lines.{eventAt, linesTo}
+use Rattle.money.specs.Refusals.{callRows}
+use Rattle.money.specs.Settlement.{refusedWith, settlement, written}
+use Rattle.money.specs.declared.settlement.Settlement.{Settlement}
+use Rattle.schedule.specs.Notices.{countOf}
+use Rattle.wire.proofs.ReadLaws.{numbers-long, read-whole}
+use Rattle.wire.proofs.WriteLaws.{written-whole}
+use Rattle.wire.specs.Bytes.{numbersRead, bytesWritten}
+use Rattle.boundary.specs.Calls.{packed, packedSettlement, linesOver, settledOver, settleCall, settleBytes}
+use Rattle.boundary.specs.Lent.{numbersIn, decoded}
+use Rattle.boundary.specs.Whole.{wholeNumbers, wholeCall, wholeBytes}
+use Rattle.boundary.proofs.LentLaws.{Right, decoded-long, decoded-whole, right-lengths}
+
+-- what was read with just the room for it
+pub read-is : (bytes numbers : List ℕ) → length numbers ≡ length bytes / 4 → numbersRead bytes numbers ≡ wholeNumbers bytes
+unfolding wholeNumbers
+read-is bytes numbers e = read-whole bytes numbers e
+
+pub whole-long : (bytes : List ℕ) → length (wholeNumbers bytes) ≡ length bytes / 4
+unfolding wholeNumbers
+whole-long bytes = numbers-long bytes (length bytes / 4)
+
+-- the call's refusal: number 0, or refused by winter, price or lengths
+module _ (w p : ℕ) (book list out : List ℕ) (readings numbers number : ℕ) (b : readings ≡ numbersIn (length book)) (l : numbers ≡ numbersIn (length list))
+    (e : refusalAt number 0 ≡ firstOf 0 (callRows w readings p numbers (length out / 8))) where
+  refusal-is : (number ≡ 0 → ⊥) → refusedWith number 0 ≡ settlement w (decoded book) p (decoded list) (length out / 8)
+  refusal-is f = call-refused w p (decoded book) (decoded list) (length out / 8) number (rw (decoded-long book, decoded-long list, ← b, ← l) e) f
+
+  pub refused-call : (number ≡ 0 → ⊥) → packed number 0 ≡ settleCall w book p list (length out)
+  unfolding settleCall
+  refused-call f = ap packedSettlement (refusal-is f)
+
+  pub refused-bytes : (number ≡ 0 → ⊥) → out ≡ settleBytes w book p list out
+  unfolding settleBytes settledOver
+  refused-bytes f = rw (← refusal-is f, ne-eqb number 0 f)
+
+  pub right-call : number ≡ 0 → Right (length book) (length list) (length out)
+  right-call z = right-lengths w p (length book) (length list) (length out) (rw (← b, ← l) (call-sound w readings p numbers (length out / 8) (rw (← e, z))))
+
+-- on bytes of the right lengths it is the settlement of their whole numbers
+module _ (w p : ℕ) (book list out : List ℕ) (r : Right (length book) (length list) (length out)) where
+  room-is : settlement w (wholeNumbers book) p (wholeNumbers list) (4 * countOf (wholeNumbers list)) ≡ settlement w (decoded book) p (decoded list) (length out / 8)
+  unfolding wholeNumbers
+  room-is =
+      rw (decoded-whole book (r .book-whole), decoded-whole list (r .list-whole))
+      (settled-room w p (wholeNumbers book) (wholeNumbers list) (4 * countOf (wholeNumbers list)) (length out / 8) (omega arith)
+      (rw (whole-long list) (r .lines-fit)))
+
+  pub whole-call : wholeCall w (wholeNumbers book) p (wholeNumbers list) ≡ settleCall w book p list (length out)
+  unfolding wholeCall settleCall
+  whole-call = ap packedSettlement room-is
+
+  pub whole-bytes : wholeBytes w (wholeNumbers book) p (wholeNumbers list) out ≡ settleBytes w book p list out
+  unfolding wholeBytes settleBytes settledOver wholeNumbers
+  whole-bytes = rw (room-is, decoded-whole book (r .book-whole), decoded-whole list (r .list-whole))
+
+-- the settlement s of numbers into lines, for which there is just the room
+module _ (w p : ℕ) (book list lines : List ℕ) (j : length lines ≡ 4 * countOf list) (s : Settlement) (e : s ≡ settlement w book p list (length lines)) where
+  just-is : s ≡ settlement w book p list (4 * countOf list)
+  just-is = e ∙ ap (settlement w book p list) j
+
+  pub just-call : packedSettlement s ≡ wholeCall w book p list
+  unfolding wholeCall
+  just-call = ap packedSettlement just-is
+
+  pub just-within : (s .number ≤ 18) × (s .place ≤ 100)
+  just-within = rw e (settlement-within w p book list (length lines))
+
+  pub just-refused : (out : List ℕ) → (s .number ≡ 0 → ⊥) → out ≡ wholeBytes w book p list out
+  unfolding wholeBytes settledOver
+  just-refused out f = rw (← just-is, ne-eqb (s .number) 0 f)
+
+  module _ (z : s .number ≡ 0) where
+    none : settlement w book p list (length lines) .number ≡ 0
+    none = ap (λ (s : Settlement). s .number) (sym e) ∙ z
+
+    pub just-accepted : 0 ≡ wholeCall w book p list
+    just-accepted =
+        ap packedSettlement (sym (e ∙ settled-accepted w p book list (length lines) (number-is w p book list (length lines) none))) ∙ just-call
+
+    pub just-written : (lines′ out out′ : List ℕ) → lines′ ≡ written w book p list lines → length lines′ ≡ length lines → 8 * length lines ≤ length out
+        → out′ ≡ bytesWritten lines′ out → out′ ≡ wholeBytes w book p list out
+    unfolding wholeBytes settledOver
+    just-written lines′ out out′ l k h o =
+        let are : lines′ ≡ linesTo p (eventAt w book list) (countOf list) = l ∙ written-just w p book list lines j none in
+        let long : length lines′ ≡ 4 * countOf list = k ∙ j in
+        let eight : 8 * length lines′ ≡ 32 * countOf list = omega arith in
+        let over : out′ ≡ linesOver w book p list out = o ∙ written-whole lines′ out (omega arith) ∙ rw (eight, long, are) in
+        rw (← just-is, eq-eqb (s .number) 0 z) over

@@ -1,0 +1,45 @@
+-- The calls on bytes: the same definitions, on the numbers that the bytes stand for.
+-- Assumes nothing.
+use Prim.Native.Nat.{ℕ, _+_, _*_, _/_}
+use mathlib.Core.Bool.{cond}
+use mathlib.Core.List.{List, _++_}
+use lib.Dec.{eqb}
+use lib.ListN.{length, getD, drop}
+use Rattle.laws.specs.Answer.{Answer}
+use Rattle.money.specs.Lines.{eventAt, linesTo}
+use Rattle.money.specs.Settlement.{settlement}
+use Rattle.money.specs.declared.settlement.Settlement.{Settlement}
+use Rattle.schedule.specs.ListCheck.{checkAnswer}
+use Rattle.schedule.specs.Notices.{countOf}
+use Rattle.wire.specs.Bytes.{bytesTo}
+use Rattle.boundary.specs.Lent.{decoded}
+
+-- "to C the answer is one number, 65,536 times the refusal number plus the place, 0 if none"
+abbrev pub packed : ℕ → ℕ → ℕ
+packed number place = 65536 * number + place
+
+abbrev pub packedAnswer : Answer → ℕ
+packedAnswer a = packed (a .number) (getD (a .values) 0 0)
+
+abbrev pub packedSettlement : Settlement → ℕ
+packedSettlement s = packed (s .number) (s .place)
+
+-- the list check
+unfoldable pub checkCall : ℕ → ℕ → List ℕ → ℕ
+checkCall w profile list = packedAnswer (checkAnswer w profile (decoded list))
+
+-- an output once its lines are there: the bytes of the lines, and then its own
+abbrev pub linesOver : ℕ → List ℕ → ℕ → List ℕ → List ℕ → List ℕ
+linesOver w book p list out = bytesTo (linesTo p (eventAt w book list) (countOf list)) (4 * countOf list) ++ drop (32 * countOf list) out
+
+-- the settlement of numbers, its lines put over the bytes of an output, which has room for so many numbers
+unfoldable pub settledOver : ℕ → List ℕ → ℕ → List ℕ → ℕ → List ℕ → List ℕ
+settledOver w book p list room out = cond (eqb (settlement w book p list room .number) 0) (linesOver w book p list out) out
+
+-- the settlement; the last number is how many bytes the output has, and 64-bit numbers have eight
+unfoldable pub settleCall : ℕ → List ℕ → ℕ → List ℕ → ℕ → ℕ
+settleCall w book p list bytes = packedSettlement (settlement w (decoded book) p (decoded list) (bytes / 8))
+
+-- and what it leaves in the output
+unfoldable pub settleBytes : ℕ → List ℕ → ℕ → List ℕ → List ℕ → List ℕ
+settleBytes w book p list out = settledOver w (decoded book) p (decoded list) (length out / 8) out

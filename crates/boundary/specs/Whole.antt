@@ -1,0 +1,26 @@
+-- What the private functions ask and ensure: the settlement on bytes whose lengths are right.
+-- Assumes nothing.
+use Prim.Native.Nat.{ℕ, _*_, _/_, _≤_}
+use mathlib.Core.List.{List}
+use lib.ListN.{length}
+use Rattle.money.specs.Settlement.{settlement}
+use Rattle.schedule.specs.Notices.{countOf}
+use Rattle.wire.specs.Bytes.{numbersTo}
+use Rattle.boundary.specs.Calls.{packedSettlement, settledOver}
+
+-- there is room for the numbers, and for the lines in the output
+pub record Lengths (book list out : ℕ) : Type 0 where
+  pub hours : book / 4 ≤ 3648
+  pub notices : list / 4 ≤ 300
+  pub room-for : 32 * (list / 4 / 3) ≤ out
+
+-- all whole numbers of some bytes
+unfoldable pub wholeNumbers : List ℕ → List ℕ
+wholeNumbers bytes = numbersTo bytes (length bytes / 4)
+
+-- the call with just the room for its lines
+unfoldable pub wholeCall : ℕ → List ℕ → ℕ → List ℕ → ℕ
+wholeCall w book p list = packedSettlement (settlement w book p list (4 * countOf list))
+
+unfoldable pub wholeBytes : ℕ → List ℕ → ℕ → List ℕ → List ℕ → List ℕ
+wholeBytes w book p list out = settledOver w book p list (4 * countOf list) out

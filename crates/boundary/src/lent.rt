@@ -1,0 +1,21 @@
+// How many numbers lent bytes stand for.
+ghost use mathlib.Core.Path.{_≡_};
+ghost use Rattle.boundary.specs.Lent.{numbersIn, listRoom};
+
+// How many numbers so many bytes are; one, which is a wrong length, where bytes are over.
+pub(crate) fn numbers_in(length: usize) -> usize
+    ensures { λ r. ⌜ r ≡ numbersIn length ⌝ }
+{
+    if length % 4 == 0 { length / 4 } else { 1 }
+}
+
+// How many numbers of a list of so many bytes to read: none past the hundredth notice is needed to refuse it.
+pub(crate) fn list_room(length: usize) -> usize
+    ensures { λ r. ⌜ r ≡ listRoom length ⌝ }
+{
+    let numbers = numbers_in(length);
+    if schedule::bad_list(numbers) {
+        return 1;
+    }
+    numbers
+}

@@ -1,0 +1,109 @@
+// The settlement on bytes. The numbers are held in arrays of its own: the book's, the list's and the lines'.
+ghost use mathlib.Core.Path.{_≡_};
+ghost use Prim.Native.Nat.{_*_, _/_, _≤_};
+ghost use lib.ListN.{length};
+ghost use Rattle.schedule.specs.Notices.{countOf};
+ghost use Rattle.boundary.specs.Calls.{settleCall, settleBytes};
+ghost use Rattle.boundary.specs.Whole.{Lengths, wholeNumbers, wholeCall, wholeBytes};
+use crate::lent::numbers_in;
+use crate::packing::pack;
+
+// Settles numbers into lines, for which there is just the room, and writes the bytes of the lines.
+fn settle_numbers(
+    winter: u32,
+    book: &[u32],
+    price: u32,
+    list: &[u32],
+    lines: &mut [u64],
+    out: &mut [u8],
+) -> u32
+    requires { ⌜ (length (now lines) ≡ 4 * countOf (now list)) × (8 * length (now lines) ≤ length (now out)) ⌝ }
+    ensures { λ r. ⌜ r ≡ wholeCall winter (now (book .entry)) price (now (list .entry)) ⌝ }
+    ensures { λ _. ⌜ now (out .exit) ≡ wholeBytes winter (now (book .entry)) price (now (list .entry)) (now (out .entry)) ⌝ }
+{
+    let s = money::settle(winter, book, price, list, lines);
+    let number = s.number;
+    let place = s.place;
+    if number != 0 {
+        return pack(number, place);
+    }
+    wire::write_numbers(lines, out);
+    0
+}
+
+// The same from the bytes of a list, with just the room for its numbers.
+fn settle_list(
+    winter: u32,
+    book: &[u32],
+    price: u32,
+    list: &[u8],
+    numbers: &mut [u32],
+    lines: &mut [u64],
+    out: &mut [u8],
+) -> u32
+    requires { ⌜ length (now numbers) ≡ length (now list) / 4 ⌝ }
+    requires { ⌜ (length (now lines) ≡ 4 * (length (now list) / 4 / 3)) × (8 * length (now lines) ≤ length (now out)) ⌝ }
+    ensures { λ r. ⌜ r ≡ wholeCall winter (now (book .entry)) price (wholeNumbers (now (list .entry))) ⌝ }
+    ensures { λ _. ⌜ now (out .exit) ≡ wholeBytes winter (now (book .entry)) price (wholeNumbers (now (list .entry))) (now (out .entry)) ⌝ }
+{
+    wire::read_numbers(list, numbers);
+    settle_numbers(winter, book, price, numbers, lines, out)
+}
+
+// The same from the bytes of a book too.
+fn settle_both(
+    winter: u32,
+    book: &[u8],
+    readings: &mut [u32],
+    price: u32,
+    list: &[u8],
+    numbers: &mut [u32],
+    lines: &mut [u64],
+    out: &mut [u8],
+) -> u32
+    requires { ⌜ (length (now readings) ≡ length (now book) / 4) × (length (now numbers) ≡ length (now list) / 4) ⌝ }
+    requires { ⌜ (length (now lines) ≡ 4 * (length (now list) / 4 / 3)) × (8 * length (now lines) ≤ length (now out)) ⌝ }
+    ensures { λ r. ⌜ r ≡ wholeCall winter (wholeNumbers (now (book .entry))) price (wholeNumbers (now (list .entry))) ⌝ }
+    ensures { λ _. ⌜ now (out .exit) ≡ wholeBytes winter (wholeNumbers (now (book .entry))) price (wholeNumbers (now (list .entry))) (now (out .entry)) ⌝ }
+{
+    wire::read_numbers(book, readings);
+    settle_list(winter, readings, price, list, numbers, lines, out)
+}
+
+// The same with room of its own for the numbers, of the right lengths.
+fn settle_whole(winter: u32, book: &[u8], price: u32, list: &[u8], out: &mut [u8]) -> u32
+    requires { ⌜ Lengths (length (now book)) (length (now list)) (length (now out)) ⌝ }
+    ensures { λ r. ⌜ r ≡ wholeCall winter (wholeNumbers (now (book .entry))) price (wholeNumbers (now (list .entry))) ⌝ }
+    ensures { λ _. ⌜ now (out .exit) ≡ wholeBytes winter (wholeNumbers (now (book .entry))) price (wholeNumbers (now (list .entry))) (now (out .entry)) ⌝ }
+{
+    let mut readings = [0u32; 3648];
+    let mut numbers = [0u32; 300];
+    let mut lines = [0u64; 400];
+    let hours = book.len() / 4;
+    let count = list.len() / 4;
+    let room = 4 * (count / 3);
+    settle_both(
+        winter,
+        book,
+        &mut readings[..hours],
+        price,
+        list,
+        &mut numbers[..count],
+        &mut lines[..room],
+        out,
+    )
+}
+
+// Settles a winter whose book and list are lent as bytes, into the bytes of an output: 0, or 65,536 times the refusal number plus the place.
+pub fn settle_bytes(winter: u32, book: &[u8], price: u32, list: &[u8], out: &mut [u8]) -> u32
+    ensures { λ r. ⌜ r ≡ settleCall winter (now (book .entry)) price (now (list .entry)) (length (now (out .entry))) ⌝ }
+    ensures { λ _. ⌜ now (out .exit) ≡ settleBytes winter (now (book .entry)) price (now (list .entry)) (now (out .entry)) ⌝ }
+{
+    let readings = numbers_in(book.len());
+    let numbers = numbers_in(list.len());
+    let number = money::call_refusal(winter, readings, price, numbers, out.len() / 8);
+    if number != 0 {
+        return pack(number, 0);
+    }
+    settle_whole(winter, book, price, list, out)
+}

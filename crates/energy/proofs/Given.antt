@@ -1,0 +1,97 @@
+-- Whatever the call on one event answers is some line's paper, so the energy beside it is at most 1,500,000,000 eighteenths of a Wh; and
+-- an event whose winter, book and notice stand is not refused: it is given code, place and energy.
+-- Assumes nothing.
+use Prim.Native.Nat.{ℕ, _*_, _≤_}
+use mathlib.Core.Bool.{Bool, true, false, not}
+use mathlib.Core.List.{List, [], _∷_}
+use mathlib.Core.Path.{_≡_, refl, sym, _∙_}
+use native.Mathlib.Omega.{arith}
+use lib.Dec.{eqb}
+use lib.ListN.{length, getD}
+use borrow.Author.Tests.{eq-eqb}
+use Rattle.calendar.proofs.Promise.{winter-range, period-day}
+use Rattle.calendar.specs.Winters.{days, inPeriod}
+use Rattle.laws.proofs.Refusals.{kept}
+use Rattle.laws.specs.Answer.{Answer, given, refuse}
+use Rattle.schedule.proofs.Lawful.{Sound, hours-iff}
+use Rattle.schedule.specs.Profiles.{figuresOf}
+use Rattle.schedule.specs.declared.notices.Notice.{Notice}
+use Rattle.schedule.specs.declared.profiles.Profile.the-variants.{Credit}
+use Rattle.energy.specs.Asked.{Asked, askedBy, needed}
+use Rattle.energy.specs.Energy.{energyOf}
+use Rattle.energy.specs.Line.{settled, linePaper, byFault, lineOf, eventAnswer}
+use Rattle.energy.specs.Readings.{firstFault}
+use Rattle.energy.specs.declared.lines.Line.the-variants as LineCase
+use Rattle.energy.specs.declared.lines.Line.{Line}
+use Rattle.energy.specs.declared.readings.Fault.the-variants.{Clean, Missing, TooLarge}
+use Rattle.energy.specs.declared.readings.Fault.{Fault}
+use Rattle.energy.proofs.EventLaws.{energy-most}
+
+-- an answer that is some line's paper
+record Paper (a : Answer) : Type 0 where
+  line : Line
+  paper : linePaper line ≡ a
+
+refuse-paper : (b : Bool) (r : Line) (rest : Answer) → Paper rest → Paper (refuse b (linePaper r) rest)
+unfolding refuse
+refuse-paper true r rest p = record { line = r; paper = refl }
+refuse-paper false r rest p = p
+
+fault-paper : (f : Fault) (energy : ℕ) → Paper (byFault f energy)
+fault-paper Clean energy = record { line = LineCase.Settled energy; paper = refl }
+fault-paper (Missing place) energy = record { line = LineCase.Missing place; paper = refl }
+fault-paper (TooLarge place) energy = record { line = LineCase.TooLarge place; paper = refl }
+
+event-paper : (y : ℕ) (book masks : List ℕ) (n : Notice) → Paper (eventAnswer y book masks n)
+unfolding eventAnswer lineOf
+event-paper y book masks n =
+    refuse-paper _ LineCase.NoWinter _ (refuse-paper _ LineCase.BadBook _ (refuse-paper _ LineCase.OutsidePeriod _ (refuse-paper _ LineCase.BadHours _
+    (refuse-paper _ LineCase.FewDays _ (fault-paper (firstFault book (needed (askedBy y masks n))) (energyOf book (askedBy y masks n)))))))
+
+-- the energy of an answer: the third value, 0 where there is none
+abbrev pub energyOn : Answer → ℕ
+energyOn a = getD (a .values) 2 0
+
+line-most : (r : Line) → ((e : ℕ) → linePaper r ≡ settled e → e ≤ 1500000000) → energyOn (linePaper r) ≤ 1500000000
+line-most (LineCase.Settled energy) m = m energy refl
+line-most LineCase.FewDays m = omega arith
+line-most (LineCase.Missing place) m = omega arith
+line-most (LineCase.TooLarge place) m = omega arith
+line-most LineCase.NoWinter m = omega arith
+line-most LineCase.BadBook m = omega arith
+line-most LineCase.OutsidePeriod m = omega arith
+line-most LineCase.BadHours m = omega arith
+
+pub answer-most : (y : ℕ) (book masks : List ℕ) (n : Notice) → energyOn (eventAnswer y book masks n) ≤ 1500000000
+answer-most y book masks n =
+    let p = event-paper y book masks n in
+    rw (← p .paper) (line-most (p .line) (λ e q. energy-most y book masks n e (sym (p .paper) ∙ q)))
+
+-- code, place and energy are all that a line has
+abbrev pub threeOf : Answer → Answer
+threeOf a = given (getD (a .values) 0 0 ∷ getD (a .values) 1 0 ∷ getD (a .values) 2 0 ∷ [])
+
+refuse-three : (b : Bool) (a rest : Answer) → a ≡ threeOf a → rest ≡ threeOf rest → refuse b a rest ≡ threeOf (refuse b a rest)
+unfolding refuse
+refuse-three true a rest p q = p
+refuse-three false a rest p q = q
+
+fault-three : (f : Fault) (energy : ℕ) → byFault f energy ≡ threeOf (byFault f energy)
+fault-three Clean energy = refl
+fault-three (Missing place) energy = refl
+fault-three (TooLarge place) energy = refl
+
+line-three : (book : List ℕ) (q : Asked) → lineOf book q ≡ threeOf (lineOf book q)
+unfolding lineOf
+line-three book q = refuse-three _ _ _ refl (fault-three (firstFault book (needed q)) (energyOf book q))
+
+-- an event of a list that stands is given its line
+pub event-given : (y : ℕ) (book masks : List ℕ) (n : Notice) → (2010 ≤ y) × (y ≤ 2098) → length book ≡ 24 * days y → Sound y (figuresOf Credit) n
+    → eventAnswer y book masks n ≡ threeOf (eventAnswer y book masks n)
+unfolding eventAnswer
+event-given y book masks n w b s =
+    let day : not (inPeriod y (n .day)) ≡ false = rw (period-day y (n .day) .1 (s .period)) in
+    let length-right : not (eqb (length book) (24 * days y)) ≡ false = rw (eq-eqb (length book) (24 * days y) b) in
+    let e : lineOf book (askedBy y masks n) ≡ eventAnswer y book masks n =
+    kept _ (winter-range y .1 w) (kept _ length-right (kept _ day (kept _ (hours-iff y (figuresOf Credit) n .1 (s .some-hour, s .band)) refl))) in
+    rw (← e) (line-three book (askedBy y masks n))

@@ -1,0 +1,27 @@
+// What a host program in C calls: the list check and the settlement, on numbers and lent bytes. No more than the names.
+ghost use mathlib.Core.Path.{_≡_};
+ghost use lib.ListN.{length};
+ghost use Rattle.boundary.specs.Calls.{checkCall, settleCall, settleBytes};
+
+// Whether a list of notices stands under a profile in a winter: 0, or 65,536 times the refusal number plus the place.
+#[no_mangle]
+pub extern "C" fn ibisladder_check(winter: u32, profile: u32, list: &[u8]) -> u32
+    ensures { λ r. ⌜ r ≡ checkCall winter profile (now (list .entry)) ⌝ }
+{
+    boundary::check_bytes(winter, profile, list)
+}
+
+// Settles a winter into a lent output: 0, or 65,536 times the refusal number plus the place.
+#[no_mangle]
+pub extern "C" fn ibisladder_settle(
+    winter: u32,
+    book: &[u8],
+    price: u32,
+    list: &[u8],
+    out: &mut [u8],
+) -> u32
+    ensures { λ r. ⌜ r ≡ settleCall winter (now (book .entry)) price (now (list .entry)) (length (now (out .entry))) ⌝ }
+    ensures { λ _. ⌜ now (out .exit) ≡ settleBytes winter (now (book .entry)) price (now (list .entry)) (now (out .entry)) ⌝ }
+{
+    boundary::settle_bytes(winter, book, price, list, out)
+}

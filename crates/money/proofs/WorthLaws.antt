@@ -1,0 +1,49 @@
+-- Laws of the rounded worth: it is the nearest number of cents, halves up, and the only one that is; it grows with the energy; and the
+-- difference of two is within one cent of the exact worth of the energy between them.
+-- Assumes nothing.
+use Prim.Native.Nat.{ℕ, _+_, _-_, _*_, _≤_, _<_}
+use mathlib.Core.Path.{_≡_, refl}
+use native.Mathlib.Nat.{add-mul, zero-mul, mul-le-mul}
+use native.Mathlib.Omega.{arith}
+use Rattle.money.specs.Worth.{centParts, exactWorth, roundedWorth}
+
+-- c cents are the nearest to the exact worth, halves up: at most half a cent above it, and less than half a cent below
+abbrev pub Nearest : ℕ → ℕ → ℕ → Type 0
+Nearest p e c = (2 * (centParts * c) ≤ 2 * exactWorth p e + centParts) × (2 * exactWorth p e < 2 * (centParts * c) + centParts)
+
+pub worth-nearest : (p e : ℕ) → Nearest p e (roundedWorth p e)
+unfolding roundedWorth
+worth-nearest p e = (omega arith, omega arith)
+
+pub nearest-one : (p e c : ℕ) → Nearest p e c → c ≡ roundedWorth p e
+nearest-one p e c n = let m = worth-nearest p e in omega arith
+
+pub worth-zero : (p : ℕ) → roundedWorth p 0 ≡ 0
+unfolding roundedWorth
+worth-zero p = rw zero-mul refl
+
+pub worth-grows : (p s e : ℕ) → roundedWorth p s ≤ roundedWorth p (s + e)
+unfolding roundedWorth
+worth-grows p s e = rw add-mul (omega arith)
+
+-- a and b differ by less than d
+pub record Near (a b d : ℕ) : Type 0 where
+  pub above : a < b + d
+  pub below : b < a + d
+
+-- a and b differ by at most half of d
+pub record NearHalf (a b d : ℕ) : Type 0 where
+  pub above : 2 * a ≤ 2 * b + d
+  pub below : 2 * b ≤ 2 * a + d
+
+pub between-near : (p s e : ℕ) → Near (centParts * (roundedWorth p (s + e) - roundedWorth p s)) (exactWorth p e) centParts
+unfolding roundedWorth
+between-near p s e = rw add-mul (record { above = omega arith; below = omega arith })
+
+pub first-near : (p e : ℕ) → NearHalf (centParts * roundedWorth p e) (exactWorth p e) centParts
+first-near p e = let n = worth-nearest p e in record { above = n .0; below = omega arith }
+
+-- no overflow: 100 events of at most 1,500,000,000 eighteenths of a Wh at the highest price stay below 2 ^ 58, before and after halves
+-- are added
+pub worth-fits : (p e : ℕ) → p ≤ 1000000 → e ≤ 150000000000 → exactWorth p e ≤ 150000000000000000
+worth-fits p e hp he = omega (arith, mul-le-mul he hp)

@@ -1,0 +1,23 @@
+-- `event_by` is the event of the notice at index k.
+-- Assumes nothing.
+use borrow.Author.Needs.{needs}
+use Rattle.money.specs.Lines.{eventBy}
+use Rattle.money.proofs.lines.event_by.Statement.{statement}
+use Rattle.money.proofs.lines.event_by.Tie as tie
+
+notice-at-requires : tie.Need-notice-at-requires
+notice-at-requires c κs = search needs
+
+settle-event-requires : tie.Need-settle-event-requires
+settle-event-requires c κs = search needs
+
+event-of-requires : tie.Need-event-of-requires
+event-of-requires c κs = search needs
+
+returns : tie.Need-returns
+unfolding eventBy
+returns c = rw (c .event-of .ensures, c .before .settle-event .ensures, c .before .before .notice-at .ensures)
+
+pub event-by-spec : {M : Type 1} → statement M
+event-by-spec =
+    tie.close (tie.spec notice-at-requires settle-event-requires event-of-requires returns)

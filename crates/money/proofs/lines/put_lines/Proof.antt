@@ -1,0 +1,142 @@
+-- `put_lines` puts the lines one after another. Invariant: the first k lines are done, the rest of the output is as it was, and the energy
+-- and the rounded worth of the k lines are at hand.
+-- Assumes nothing.
+use Prim.Native.Nat.{ℕ, suc, _+_, _-_, _*_, _≤_, _<_}
+use mathlib.Core.List.{List, [], _∷_}
+use mathlib.Core.Path.{_≡_, refl, sym, ap, _∙_}
+use native.Mathlib.Numerals.{add-one}
+use native.Mathlib.Omega.{arith}
+use lib.ListN.{length}
+use lib.Seq.{sets}
+use borrow.Author.Needs.{needs}
+use Rattle.money.specs.Lines.{eventBy, energyTo, centsAt, lineAt, linesTo}
+use Rattle.money.specs.Settlement.{linesIn}
+use Rattle.money.specs.Worth.{roundedWorth}
+use Rattle.money.specs.declared.lines.Event.{Event}
+use Rattle.money.proofs.LineLaws.{events-small, energy-next, total-small, lines-next}
+use Rattle.money.proofs.WorthLaws.{worth-zero, worth-grows}
+use Rattle.money.proofs.lines.put_lines.Statement.{statement}
+use Rattle.money.proofs.lines.put_lines.Tie as tie
+
+record Held (p : ℕ) (events : ℕ → Event) (out₀ : List ℕ) (n : ℕ) (out : List ℕ) (energy worth k : ℕ) : Type 0 where
+  within : k ≤ n
+  energy-is : energy ≡ energyTo events k
+  worth-is : worth ≡ roundedWorth p (energyTo events k)
+  lines-are : out ≡ linesIn p events k out₀
+  size : length out ≡ length out₀
+
+module _ {p : ℕ} {events : ℕ → Event} {out₀ : List ℕ} {n : ℕ} {out : List ℕ} {energy worth k : ℕ} (h : Held p events out₀ n out energy worth k) where
+  -- the energy with the event e of this turn
+  more-is : (e : Event) → e ≡ events k → energy + e .energy ≡ energyTo events (suc k)
+  more-is e q = rw (h .energy-is, q) (sym (energy-next events k))
+
+  -- it fits, as does its worth, and its worth is no less than that before
+  more-small : (e : Event) → e ≡ events k → ((j : ℕ) → events j .energy ≤ 1500000000) → k < n → n ≤ 100 → energy + e .energy ≤ 150000000000
+  more-small e q small lt few = rw (more-is e q) (total-small events small (suc k) (omega arith))
+
+  worth-before : (e : Event) → e ≡ events k → (w : ℕ) → w ≡ roundedWorth p (energy + e .energy) → worth ≤ w
+  worth-before e q w v = rw (v, h .worth-is, h .energy-is) (worth-grows p (energyTo events k) (e .energy))
+
+  w-is : (e : Event) → e ≡ events k → (w : ℕ) → w ≡ roundedWorth p (energy + e .energy) → w ≡ roundedWorth p (energyTo events (suc k))
+  w-is e q w v = v ∙ ap (roundedWorth p) (more-is e q)
+
+  line-is : (e : Event) → e ≡ events k → (w : ℕ) → w ≡ roundedWorth p (energy + e .energy)
+      → _≡_ {A = List ℕ} (e .code ∷ e .place ∷ e .energy ∷ (w - worth) ∷ []) (lineAt p events k)
+  unfolding lineAt centsAt
+  line-is e q w v = rw (q, w-is e q w v, h .worth-is)
+
+  -- a turn: the four stores are line k
+  held-next : (e : Event) → e ≡ events k → (w : ℕ) → w ≡ roundedWorth p (energy + e .energy) → k < n → 4 * n ≤ length out₀ → (out′ : List ℕ)
+      → length out′ ≡ length out → out′ ≡ sets out (4 * k) (e .code ∷ e .place ∷ e .energy ∷ (w - worth) ∷ [])
+      → Held p events out₀ n out′ (energy + e .energy) w (k + 1)
+  held-next e q w v lt room out′ long stored =
+      rw add-one (record {
+        within = lt;
+        energy-is = more-is e q;
+        worth-is = w-is e q w v;
+        lines-are =
+            stored
+            ∙ ap (λ (vs : List ℕ). sets out (4 * k) vs) (line-is e q w v)
+            ∙ ap (λ (o : List ℕ). sets o (4 * k) (lineAt p events k)) (h .lines-are)
+            ∙ lines-next p events out₀ k (omega arith);
+        size = long ∙ h .size;
+      })
+
+abbrev Inv-loop : tie.InvT-loop
+Inv-loop winter book masks price list out₀ n energy₀ worth₀ k₀ out energy worth k = Held price (eventBy winter book masks list) out₀ n out energy worth k
+
+abbrev μ-loop : tie.MeasureT-loop
+μ-loop winter book masks price list out₀ n energy₀ worth₀ k₀ out energy worth k = n - k
+
+loop-holds : tie.Need-loop-holds Inv-loop μ-loop
+unfolding energyTo linesTo
+loop-holds c = record { within = omega arith; energy-is = refl; worth-is = sym (worth-zero _); lines-are = refl; size = refl }
+
+event-by-requires : tie.Need-event-by-requires Inv-loop μ-loop
+event-by-requires c κs = search needs
+
+add-more : tie.Need-add-more Inv-loop μ-loop
+add-more c =
+    let l = c .before .before .before in
+    let s = l .before .before .before .before in
+    omega (arith, more-small (l .loop .inv) _ (c .before .event-by .ensures) (events-small _ _ _ _) (c .before .before .loop-test .taken) (s .pre .1))
+
+rounded-worth-requires : tie.Need-rounded-worth-requires Inv-loop μ-loop
+rounded-worth-requires c κs =
+    let l = c .before .before .before in
+    let s = l .before .before .before .before in
+    (s .pre .2, more-small (l .loop .inv) _ (c .before .event-by .ensures) (events-small _ _ _ _) (c .before .before .loop-test .taken) (s .pre .1))
+
+mul-put-line : tie.Need-mul-put-line Inv-loop μ-loop
+mul-put-line c = omega arith
+
+sub-put-line : tie.Need-sub-put-line Inv-loop μ-loop
+sub-put-line c =
+    let l = c .before .before .before .before .before in
+    worth-before (l .loop .inv) _ (c .before .before .before .event-by .ensures) _ (c .before .rounded-worth .ensures)
+
+put-line-requires : tie.Need-put-line-requires Inv-loop μ-loop
+put-line-requires c κs = omega arith
+
+add-k : tie.Need-add-k Inv-loop μ-loop
+add-k c = omega arith
+
+loop-less : tie.Need-loop-less Inv-loop μ-loop
+loop-less c = omega arith
+
+loop-again : tie.Need-loop-again Inv-loop μ-loop
+loop-again c =
+    let t = c .before .before in
+    let e = t .before .before .before .before in
+    let l = e .before .before in
+    let s = l .before .before .before .before in
+    held-next (l .loop .inv) _ (e .event-by .ensures) _ (t .before .before .rounded-worth .ensures) (e .before .loop-test .taken) (s .pre .0) _ (t .put-line .kept .0) (t .put-line .ensures)
+
+same-length : tie.Need-same-length Inv-loop μ-loop
+same-length c = c .before .loop .inv .size
+
+returns : tie.Need-returns Inv-loop μ-loop
+returns c =
+    let l = c .before in
+    let h = l .loop .inv in
+    let e : l .loop .k ≡ l .before .before .before .before .args .n = omega arith in
+    (rw (← e) (h .energy-is), rw (← e) (h .lines-are))
+
+pub put-lines-spec : {M : Type 1} → statement M
+put-lines-spec =
+    tie.close
+    (tie.spec
+    Inv-loop
+    μ-loop
+    loop-holds
+    event-by-requires
+    add-more
+    rounded-worth-requires
+    mul-put-line
+    sub-put-line
+    put-line-requires
+    add-k
+    loop-less
+    loop-again
+    same-length
+    returns)

@@ -1,0 +1,5 @@
+pub mod Worth
+pub mod Refusals
+pub mod Lines
+pub mod Settlement
+pub mod Printed

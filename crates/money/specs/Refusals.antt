@@ -1,0 +1,38 @@
+-- The refusals of a settlement.
+-- "Order: .. settlement 1, 2, 3, 4, 6, then the notices under profile 1".
+-- Assumes nothing.
+use Prim.Native.Nat.{ℕ, _*_, _/_}
+use mathlib.Core.Bool.{Bool, not, _||_}
+use mathlib.Core.List.{List, [], _∷_}
+use lib.Dec.{ltb, eqb}
+use lib.ListN.{length}
+use Rattle.calendar.specs.Winters.{noWinter, days}
+use Rattle.laws.specs.Answer.{Answer}
+use Rattle.laws.specs.Table.{Row, row, firstOf, orElse}
+use Rattle.schedule.specs.ListCheck.{badList, checkAnswer}
+
+-- "2: book length is not 24N"
+unfoldable pub badBook : ℕ → ℕ → Bool
+badBook w readings = not (eqb readings (24 * days w))
+
+-- "3: price outside 1..1,000,000"
+unfoldable pub badPrice : ℕ → Bool
+badPrice p = ltb p 1 || ltb 1000000 p
+
+-- "6: output has fewer than 4 numbers a notice"; a list has three numbers a notice
+unfoldable pub shortOutput : ℕ → ℕ → Bool
+shortOutput numbers room = ltb room (4 * (numbers / 3))
+
+-- by winter and price, and by how many numbers the book, the list and the output have
+unfoldable pub callRows : ℕ → ℕ → ℕ → ℕ → ℕ → List Row
+callRows w readings p numbers room =
+    row 1 (noWinter w)
+    ∷ row 2 (badBook w readings)
+    ∷ row 3 (badPrice p)
+    ∷ row 4 (badList numbers)
+    ∷ row 6 (shortOutput numbers room)
+    ∷ []
+
+-- past 1 and 4 the list check under profile 1 has only the notices left to refuse; no reading is looked at
+unfoldable pub refusalOf : ℕ → ℕ → ℕ → List ℕ → ℕ → Answer
+refusalOf w readings p l room = orElse (firstOf 0 (callRows w readings p (length l) room)) (checkAnswer w 1 l)

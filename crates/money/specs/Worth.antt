@@ -1,0 +1,14 @@
+-- What energy is worth.
+-- Assumes nothing.
+use Prim.Native.Nat.{ℕ, _+_, _*_, _/_}
+
+-- "Energy E is worth E times p / 18,000,000 cents exactly." So many eighteen-millionths of a cent
+abbrev pub centParts : ℕ
+centParts = 18000000
+
+abbrev pub exactWorth : ℕ → ℕ → ℕ
+exactWorth p e = e * p
+
+-- "Rounding is to the nearest cent, halves up"
+unfoldable pub roundedWorth : ℕ → ℕ → ℕ
+roundedWorth p e = (exactWorth p e + centParts / 2) / centParts

@@ -1,0 +1,115 @@
+// The lines of a settlement.
+ghost use mathlib.Core.Path.{_≡_};
+ghost use mathlib.Core.List.{[], _∷_};
+ghost use Prim.Native.Nat.{_+_, _*_, _≤_};
+ghost use lib.ListN.{length};
+ghost use lib.Seq.{sets};
+ghost use Rattle.energy.specs.Line.{linePaper};
+ghost use Rattle.money.specs.Lines.{eventOf, eventBy, energyTo};
+ghost use Rattle.money.specs.Settlement.{linesIn};
+use crate::worth::rounded_worth;
+use energy::Line;
+
+// An event of an accepted list: its code, its place and its spared energy.
+pub struct Event {
+    pub code: u64,
+    pub place: u64,
+    pub energy: u64,
+}
+
+// Code, place and energy of a line. The refused cases are never an accepted list's; they hold nothing.
+fn event_of(line: Line) -> Event
+    ensures { λ r. ⌜ r ≡ eventOf (linePaper line) ⌝ }
+{
+    match line {
+        Line::Settled(energy) => Event {
+            code: 0,
+            place: 0,
+            energy,
+        },
+        Line::FewDays => Event {
+            code: 20,
+            place: 0,
+            energy: 0,
+        },
+        Line::Missing(place) => Event {
+            code: 21,
+            place: place as u64,
+            energy: 0,
+        },
+        Line::TooLarge(place) => Event {
+            code: 22,
+            place: place as u64,
+            energy: 0,
+        },
+        Line::NoWinter => Event {
+            code: 0,
+            place: 0,
+            energy: 0,
+        },
+        Line::BadBook => Event {
+            code: 0,
+            place: 0,
+            energy: 0,
+        },
+        Line::OutsidePeriod => Event {
+            code: 0,
+            place: 0,
+            energy: 0,
+        },
+        Line::BadHours => Event {
+            code: 0,
+            place: 0,
+            energy: 0,
+        },
+    }
+}
+
+// The event that the notice at index k is.
+fn event_by(winter: u32, book: &[u32], masks: &[u32; 152], list: &[u32], k: usize) -> Event
+    ensures { λ r. ⌜ r ≡ eventBy winter (now (book .entry)) (now (masks .entry)) (now (list .entry)) k ⌝ }
+{
+    let n = schedule::notice_at(list, k);
+    event_of(energy::settle_event(winter, book, masks, n))
+}
+
+// Puts an event's code, place and energy and its cents from index `at` on.
+fn put_line(out: &mut [u64], at: usize, event: Event, cents: u64)
+    requires { ⌜ at + 4 ≤ length (now out) ⌝ }
+    ensures { λ _. ⌜ now (out .exit) ≡ sets (now (out .entry)) at (event .code ∷ event .place ∷ event .energy ∷ cents ∷ []) ⌝ }
+{
+    out[at] = event.code;
+    out[at + 1] = event.place;
+    out[at + 2] = event.energy;
+    out[at + 3] = cents;
+}
+
+// Puts the lines of the first n notices, and gives their energy. What the lines before were worth is carried on, so that cents are
+// rounded on the sum and never line by line.
+pub(crate) fn put_lines(
+    winter: u32,
+    book: &[u32],
+    masks: &[u32; 152],
+    price: u32,
+    list: &[u32],
+    out: &mut [u64],
+    n: usize,
+) -> u64
+    requires { ⌜ (4 * n ≤ length (now out)) × (n ≤ 100) × (price ≤ 1000000) ⌝ }
+    ensures { λ r. ⌜ r ≡ energyTo (eventBy winter (now (book .entry)) (now (masks .entry)) (now (list .entry))) n ⌝ }
+    ensures { λ _. ⌜ now (out .exit) ≡ linesIn price (eventBy winter (now (book .entry)) (now (masks .entry)) (now (list .entry))) n (now (out .entry)) ⌝ }
+{
+    let mut energy: u64 = 0;
+    let mut worth: u64 = 0;
+    let mut k: usize = 0;
+    while k < n {
+        let event = event_by(winter, book, masks, list, k);
+        let more = energy + event.energy;
+        let next = rounded_worth(price, more);
+        put_line(out, 4 * k, event, next - worth);
+        energy = more;
+        worth = next;
+        k += 1;
+    }
+    energy
+}

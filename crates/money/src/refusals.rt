@@ -1,0 +1,69 @@
+// What refuses a settlement before a reading is looked at.
+ghost use mathlib.Core.Path.{_≡_};
+ghost use Rattle.laws.specs.Table.{refusalAt, firstOf};
+ghost use Rattle.money.specs.Refusals.{badPrice, shortOutput, callRows, refusalOf};
+use calendar::Days;
+
+// A refusal number, 0 if nothing is refused, and its place.
+pub struct Refusal {
+    pub number: u32,
+    pub place: u32,
+}
+
+// 3: the price is outside 1 to 1,000,000.
+fn bad_price(price: u32) -> bool
+    ensures { λ r. ⌜ r ≡ badPrice price ⌝ }
+{
+    (price < 1) | (1_000_000 < price)
+}
+
+// 6: the output has fewer than 4 numbers a notice. Divided on both sides, so that no length is too large.
+fn short_output(numbers: usize, room: usize) -> bool
+    ensures { λ r. ⌜ r ≡ shortOutput numbers room ⌝ }
+{
+    room / 4 < numbers / 3
+}
+
+// The number by which a settlement is refused whatever its readings and notices are, 0 if it is not: by winter and price, and by how many
+// numbers the book, the list and the output have.
+pub fn call_refusal(winter: u32, readings: usize, price: u32, numbers: usize, room: usize) -> u32
+    ensures { λ r. ⌜ refusalAt r 0 ≡ firstOf 0 (callRows winter readings price numbers room) ⌝ }
+{
+    let days = calendar::winter_days(winter);
+    let Days::Are(count) = days else {
+        return 1;
+    };
+    if readings != 24 * (count as usize) {
+        return 2;
+    }
+    if bad_price(price) {
+        return 3;
+    }
+    if schedule::bad_list(numbers) {
+        return 4;
+    }
+    if short_output(numbers, room) {
+        return 6;
+    }
+    0
+}
+
+// The refusal of a settlement: that of the call, or else that of the notices under profile 1.
+pub(crate) fn refusal_of(
+    winter: u32,
+    readings: usize,
+    price: u32,
+    list: &[u32],
+    room: usize,
+) -> Refusal
+    ensures { λ r. ⌜ refusalAt (r .number) (r .place) ≡ refusalOf winter readings price (now (list .entry)) room ⌝ }
+{
+    let number = call_refusal(winter, readings, price, list.len(), room);
+    if number != 0 {
+        return Refusal { number, place: 0 };
+    }
+    let verdict = schedule::check(winter, 1, list);
+    let number = schedule::number_of(verdict);
+    let place = schedule::place_of(verdict);
+    Refusal { number, place }
+}

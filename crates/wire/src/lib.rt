@@ -1,0 +1,7 @@
+// Numbers as bytes, little-endian, for the boundary to C: four bytes a number that comes in, eight a number that goes out.
+mod counts;
+mod reading;
+mod writing;
+
+pub use reading::read_numbers;
+pub use writing::write_numbers;

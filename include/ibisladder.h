@@ -1,0 +1,147 @@
+/*
+ * Ibisladder: what a building spared in the peaks of a winter, and what that is worth in cents.
+ *
+ * Two calls. ibisladder_check says whether a list of notices can stand together under the rules of a tariff, and if not, which
+ * rule it breaks first and where. ibisladder_settle works out, for each notice of such a list, the energy spared and its worth.
+ * Both are proved to answer every input as the specification says; nothing has to be checked before a call.
+ *
+ * The archive libibisladder.a is position-independent code for x86-64 Linux and needs nothing but memcpy and memset.
+ *
+ *
+ * Words and units
+ *
+ *   winter    named by the year Y of its December, 2010 to 2098: winter 2026 is that of 2026/27.
+ *   day       counted from 1 November Y, which is day 0, so that 1 December is day 30 and 31 March Y+1 is day N-1.
+ *             N is 152 if Y+1 is a leap year (in this range: divisible by 4), else 151.
+ *   hour      0 to 23 by the clock, 24 on every day. Hour h runs from h to h+1.
+ *   reading   the energy drawn in one hour, in Wh: 0 to 10,000,000. IBISLADDER_MISSING stands for a missing one.
+ *   book      all readings of a winter: 24 N numbers of 32 bits, day by day, the reading of an hour at index 24 * day + hour.
+ *   notice    three numbers of 32 bits: day, first hour s, end e. Its hours, the event's, are s to e-1.
+ *   list      0 to 100 notices, one behind the other, in the order of time.
+ *   price     in thousandths of a cent per kWh, 1 to 1,000,000.
+ *   energy    in eighteenths of a Wh: the rules of the tariff then come out whole, and nothing is rounded.
+ *   line      what the settlement writes for a notice: four numbers of 64 bits, which are the event code, its place, the energy
+ *             spared, and its cents. Neither energy nor cents are ever negative.
+ *
+ * A line's cents are the rounded worth of all lines up to it, less the rounded worth of all lines before it (halves go up), so
+ * that the cents of the lines add up to the rounded worth of their energies. The two totals are the caller's to add up.
+ *
+ *
+ * What the caller lends
+ *
+ * Lists, books and outputs are bytes: a pointer and a length in bytes. Numbers in them are little-endian, on every machine, and
+ * need no alignment. Each pointer must be good for as many bytes as the length beside it says, and no byte beyond is touched.
+ * It must not be NULL, not even beside the length 0: lend any address there, as that of a variable. The output must not overlap the
+ * list or the book. The bytes themselves may be anything.
+ *
+ * What is lent is used during the call alone: nothing is kept, nothing is taken from the heap, and only the output is written to.
+ *
+ * There is no state: any number of threads may call at once, with lists and books in common, as long as each has an output of its
+ * own. A call needs at most IBISLADDER_STACK_BYTES of stack.
+ */
+#ifndef IBISLADDER_H
+#define IBISLADDER_H
+
+#include <stddef.h>
+#include <stdint.h>
+
+#ifdef __cplusplus
+extern "C" {
+#endif
+
+/* Sizes and bounds. */
+#define IBISLADDER_FIRST_WINTER 2010u
+#define IBISLADDER_LAST_WINTER 2098u
+#define IBISLADDER_DAYS 151u           /* N, where the year after the winter's December is no leap year */
+#define IBISLADDER_DAYS_LEAP 152u      /* N, where it is one */
+#define IBISLADDER_HOURS 24u           /* hours of a day */
+#define IBISLADDER_MOST_NOTICES 100u   /* notices of a list, at most */
+#define IBISLADDER_NOTICE_NUMBERS 3u   /* numbers of a notice: day, first hour, end */
+#define IBISLADDER_LINE_NUMBERS 4u     /* numbers of an output line: code, place, energy, cents */
+#define IBISLADDER_NUMBER_BYTES 4u     /* bytes of a number in a book or a list */
+#define IBISLADDER_OUT_NUMBER_BYTES 8u /* bytes of a number in an output */
+#define IBISLADDER_HIGHEST_PRICE 1000000u
+#define IBISLADDER_HIGHEST_READING 10000000u
+#define IBISLADDER_MISSING 4294967295u /* in a book: there is no reading of this hour */
+
+/* Bytes of stack that a call needs, at most. Measured: 20,652 in ibisladder_settle, 1,404 in ibisladder_check. */
+#define IBISLADDER_STACK_BYTES 24576u
+
+/* The profiles: which rules a list is checked under. */
+enum ibisladder_profile {
+    /* Events in hours 6 to 9 or 16 to 19 on any day, 1 to 4 hours each. */
+    IBISLADDER_PROFILE_WINTER_CREDIT = 1,
+    /* Events in hours 6 to 8 or 16 to 19 from Monday to Friday, 3 or 4 hours each. */
+    IBISLADDER_PROFILE_POWER_OPTION = 2
+};
+
+/*
+ * Why a call is refused: the number of its answer. The place of 10 to 18 is the index of the notice, from 0; that of the others
+ * is 0. Of several reasons the first of the call's order is given, which is said at each call.
+ */
+enum ibisladder_refusal {
+    IBISLADDER_ACCEPTED = 0,          /* not refused */
+    IBISLADDER_REFUSED_WINTER = 1,    /* the winter is outside 2010..2098 */
+    IBISLADDER_REFUSED_BOOK = 2,      /* the book is not 24 N whole numbers long */
+    IBISLADDER_REFUSED_PRICE = 3,     /* the price is outside 1..1,000,000 */
+    IBISLADDER_REFUSED_LIST = 4,      /* the list is not of whole notices, or has more than 100 */
+    IBISLADDER_REFUSED_PROFILE = 5,   /* the profile is neither 1 nor 2 */
+    IBISLADDER_REFUSED_OUTPUT = 6,    /* the output has fewer than four whole numbers a notice */
+    IBISLADDER_REFUSED_DAY = 10,      /* the day is outside the winter period, days 30 to N-1 */
+    IBISLADDER_REFUSED_EXCLUDED = 11, /* 24, 25, 26, 31 December, 1, 2 January, Good Friday or Easter Monday */
+    IBISLADDER_REFUSED_WEEKEND = 12,  /* a Saturday or Sunday, under profile 2 */
+    IBISLADDER_REFUSED_HOURS = 13,    /* the hours are empty, reversed or not inside one band of the profile */
+    IBISLADDER_REFUSED_LENGTH = 14,   /* the profile does not allow so few or so many hours */
+    IBISLADDER_REFUSED_ORDER = 15,    /* it starts before the notice before it ends, as a notice given twice does */
+    IBISLADDER_REFUSED_BAND = 16,     /* it is on the day and in the band of the notice before it */
+    IBISLADDER_REFUSED_TOTAL = 18     /* with it the hours of the list pass 100 */
+};
+
+/* How an event was settled: the first number of its line. A line that is not settled has energy 0, and stops no other. */
+enum ibisladder_event {
+    IBISLADDER_EVENT_SETTLED = 0,   /* the energy is what was spared; place 0 */
+    IBISLADDER_EVENT_FEW_DAYS = 20, /* fewer than five reference days; does not come up, since November has as many; place 0 */
+    IBISLADDER_EVENT_MISSING = 21,  /* a needed reading is missing, the one at the place, 24 * day + hour */
+    IBISLADDER_EVENT_TOO_LARGE = 22 /* a needed reading is above 10,000,000, the one at the place, 24 * day + hour */
+};
+
+/* An answer is 65,536 times the number plus the place, and 0 for an accepted call. */
+
+/* The number of an answer, one of enum ibisladder_refusal. */
+static inline uint32_t ibisladder_number(uint32_t answer)
+{
+    return answer >> 16;
+}
+
+/* The place of an answer. */
+static inline uint32_t ibisladder_place(uint32_t answer)
+{
+    return answer & 65535u;
+}
+
+/*
+ * Whether the notices of a list can stand together under a profile. list_length is in bytes: 12 a notice.
+ *
+ * Gives 0, or why not: 1, 5 and 4 in this order, then 10, 11, 12, 13, 14, 15, 16 and 18 in this order for the first notice, then
+ * for the next. (Under profile 1 there is no 12 and no 14, under profile 2 no 16.) An empty list is accepted.
+ */
+uint32_t ibisladder_check(uint32_t winter, uint32_t profile, const uint8_t *list, size_t list_length);
+
+/*
+ * Settles the notices of a list under profile 1, the winter credit. Lengths are in bytes: 96 N the book, 12 a notice the list, and
+ * at least 32 a notice the output.
+ *
+ * Gives 0 and has written a line for each notice, in the order of the list; what is behind the last line in the output is left as
+ * it was. Or gives why not, and has written nothing: 1, 2, 3, 4 and 6 in this order, then the numbers of the notices as
+ * ibisladder_check gives them under profile 1.
+ *
+ * A reading that no event needs is not looked at: it may be missing or anything else.
+ */
+uint32_t ibisladder_settle(uint32_t winter, const uint8_t *book, size_t book_length, uint32_t price, const uint8_t *list,
+                           size_t list_length, uint8_t *out, size_t out_length);
+
+#ifdef __cplusplus
+}
+#endif
+
+#endif
