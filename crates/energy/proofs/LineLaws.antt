@@ -8,7 +8,8 @@ use native.Mathlib.Omega.{arith}
 use lib.Dec.{ltb}
 use lib.ListN.{length, getD}
 use borrow.Author.Tests.{lt-ltb, le-ltb}
-use Rattle.calendar.proofs.BookLaws.{part-earlier}
+use Rattle.calendar.proofs.BookLaws.{has-part, part-earlier}
+use Rattle.calendar.proofs.Bounds.{days-range}
 use Rattle.calendar.specs.Book.{noPart}
 use Rattle.laws.proofs.Every.{at}
 use Rattle.laws.proofs.Refusals.{refused, kept}
@@ -20,12 +21,18 @@ use Rattle.energy.specs.EnergyIn.{energyIn, Ready}
 use Rattle.energy.specs.Held.{heldIn, hoursIn}
 use Rattle.energy.specs.HoursOf.{HoursFor}
 use Rattle.energy.specs.Line.{unsettled, byFault, lineOf}
-use Rattle.energy.specs.Readings.{firstFault}
+use Rattle.energy.specs.Readings.{firstFault, InBook}
 use Rattle.energy.specs.ReferenceDays.{serves, referenceDays}
 use Rattle.energy.specs.declared.hours.Hours.{Hours}
 use Rattle.energy.specs.declared.readings.Fault.{Fault}
 use Rattle.energy.specs.declared.reference_days.Refs.{Refs}
 use Rattle.energy.proofs.Nearest.{refs-serve, refs-few, held-days}
+
+-- a day whose part is in the book
+pub in-book : (y len d : ℕ) → noPart y len d ≡ false → InBook len d
+in-book y len d e =
+    let p = has-part y len d e in
+    record { readings = omega (arith, p .whole, p .day, days-range y); day = omega (arith, p .day, days-range y) }
 
 -- the search's answer r: fewer than five days, or the five
 module _ (y : ℕ) (masks : List ℕ) (n : Notice) (r : Refs) (q : r ≡ heldIn (referenceDays y masks (n .day))) where
@@ -38,11 +45,11 @@ module _ (y : ℕ) (masks : List ℕ) (n : Notice) (r : Refs) (q : r ≡ heldIn 
   days-are : 5 ≤ r .count → r .days ≡ referenceDays y masks (n .day)
   days-are h = ap (λ (x : Refs). x .days) q ∙ held-days (referenceDays y masks (n .day)) (refs-few y masks (n .day)) .five-are (five h)
 
-  pub refs-in : (len : ℕ) → noPart y len (n .day) ≡ false → 5 ≤ r .count → (k : ℕ) → k < 5 → noPart y len (getD (r .days) k 0) ≡ false
+  pub refs-in : (len : ℕ) → noPart y len (n .day) ≡ false → 5 ≤ r .count → (k : ℕ) → k < 5 → InBook len (getD (r .days) k 0)
   refs-in len e h k b =
       rw (days-are h)
-      (part-earlier y len (n .day) (getD (referenceDays y masks (n .day)) k 0) e
-      (let s = at (λ (d : ℕ). (d < n .day) × (serves y masks (n .day) d ≡ true)) (referenceDays y masks (n .day)) k 0 (omega (arith, five h)) (refs-serve y masks (n .day)) in omega (arith, s .0)))
+      (in-book y len _ (part-earlier y len (n .day) (getD (referenceDays y masks (n .day)) k 0) e
+      (let s = at (λ (d : ℕ). (d < n .day) × (serves y masks (n .day) d ≡ true)) (referenceDays y masks (n .day)) k 0 (omega (arith, five h)) (refs-serve y masks (n .day)) in omega (arith, s .0))))
 
   pub line-few : (book : List ℕ) → r .count < 5 → unsettled 20 0 ≡ lineOf book (askedBy y masks n)
   unfolding lineOf askedBy
@@ -66,10 +73,10 @@ module _ (y : ℕ) (masks : List ℕ) (n : Notice) (r : Refs) (q : r ≡ heldIn 
     unfolding lineOf
     line-five f en a p s t = kept _ enough (rw (← fault-is, ← energy-is, ← p, ← s) t)
 
-    pub ready : (len : ℕ) → noPart y len (n .day) ≡ false → n .end - n .start ≤ 4 → Ready y len (n .day) hours (r .days)
+    pub ready : (len : ℕ) → noPart y len (n .day) ≡ false → n .end - n .start ≤ 4 → Ready len (n .day) hours (r .days)
     ready len e few =
         record {
-          day-in = e;
+          day-in = in-book y len (n .day) e;
           refs-in = refs-in len e h;
           hours-in = hf .in-day;
           warm-few = hf .warm-few;

@@ -10,11 +10,11 @@ use native.Mathlib.Omega.{arith}
 use lib.Dec.{ltb, eqb}
 use lib.ListN.{length, getD, take, set, replicate, length-set}
 use lib.Seq.{sets, take-nil}
-use borrow.Author.Tests.{eq-eqb, ne-eqb, eqb-false, ltb-true, ltb-false, lt-ltb}
+use borrow.Author.Tests.{eq-eqb, ne-eqb, eqb-true, eqb-false, ltb-true, ltb-false, lt-ltb}
 use Rattle.calendar.specs.Excluded.{excluded}
 use Rattle.calendar.specs.Weekdays.{weekend}
 use Rattle.laws.proofs.Guards.{both}
-use Rattle.energy.specs.Held.{heldIn, pastEvents}
+use Rattle.energy.specs.Held.{heldIn, pastEvents, freeServes}
 use Rattle.energy.specs.ReferenceDays.{serves, before, referenceDays}
 use Rattle.energy.specs.declared.reference_days.Refs.{Refs}
 
@@ -22,19 +22,29 @@ and-false : (b : Bool) → (b && false) ≡ false
 and-false true = refl
 and-false false = refl
 
--- the ways out of `day_serves`
-module _ (y : ℕ) (masks : List ℕ) (day d : ℕ) where
-  pub other-kind : Bool·beq (weekend y d) (weekend y day) ≡ false → serves y masks day d ≡ false
-  unfolding serves
+-- the ways out of `free_day_serves`
+module _ (y day d : ℕ) where
+  pub other-kind : Bool·beq (weekend y d) (weekend y day) ≡ false → freeServes y day d ≡ false
+  unfolding freeServes
   other-kind h = rw h
 
-  pub has-event : (getD masks d 0 ≡ 0 → ⊥) → serves y masks day d ≡ false
+  pub same-kind : Bool·beq (weekend y d) (weekend y day) ≡ true → freeServes y day d ≡ not (excluded y d)
+  unfolding freeServes
+  same-kind h = rw h
+
+-- a day serves if it carries no event and serves then
+module _ (y : ℕ) (masks : List ℕ) (day d : ℕ) where
+  has-event : (getD masks d 0 ≡ 0 → ⊥) → serves y masks day d ≡ false
   unfolding serves
   has-event h = rw (ne-eqb (getD masks d 0) 0 h, and-false)
 
-  pub free-day : Bool·beq (weekend y d) (weekend y day) ≡ true → getD masks d 0 ≡ 0 → serves y masks day d ≡ not (excluded y d)
-  unfolding serves
-  free-day h k = rw (h, eq-eqb (getD masks d 0) 0 k)
+  pub free-day : getD masks d 0 ≡ 0 → freeServes y day d ≡ serves y masks day d
+  unfolding serves freeServes
+  free-day k = rw (eq-eqb (getD masks d 0) 0 k) (by (Bool·beq (weekend y d) (weekend y day)))
+    where
+      by : (b : Bool) → (b && not (excluded y d)) ≡ (b && true && not (excluded y d))
+      by true = refl
+      by false = refl
 
 -- with `count` days of `want` stored, the rest of `want` are the nearest before d that pass
 pub record Search (ok : ℕ → Bool) (want days : List ℕ) (count d : ℕ) : Type 0 where
@@ -125,6 +135,17 @@ pub past-none : (masks : List ℕ) (d : ℕ) → d ≤ 0 → 0 ≡ pastEvents ma
 unfolding pastEvents
 past-none masks zero h = refl
 past-none masks (suc d) h = absurd (omega arith)
+
+-- the day right before where it stops is free
+pub past-free : (masks : List ℕ) (d : ℕ) → 0 < pastEvents masks d → getD masks (pastEvents masks d - 1) 0 ≡ 0
+unfolding pastEvents
+past-free masks zero h = absurd (omega arith)
+past-free masks (suc d) h = by (eqb (getD masks d 0) 0) refl (past-free masks d) h
+  where
+    by : (b : Bool) → eqb (getD masks d 0) 0 ≡ b → (0 < pastEvents masks d → getD masks (pastEvents masks d - 1) 0 ≡ 0)
+        → 0 < cond b (suc d) (pastEvents masks d) → getD masks (cond b (suc d) (pastEvents masks d) - 1) 0 ≡ 0
+    by true q rest h = let e : suc d - 1 ≡ d = omega arith in rw e (eqb-true (getD masks d 0) 0 q)
+    by false q rest h = rest h
 
 pub past-le : (masks : List ℕ) (d : ℕ) → pastEvents masks d ≤ d
 unfolding pastEvents

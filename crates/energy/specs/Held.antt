@@ -2,11 +2,13 @@
 -- how it walks over days that carry an event.
 -- Assumes nothing.
 use Prim.Native.Nat.{ℕ, zero, suc, _-_}
-use mathlib.Core.Bool.{cond}
+use mathlib.Core.Bool.{Bool, not, cond, Bool·beq, _&&_}
 use mathlib.Core.List.{List}
 use lib.Dec.{eqb}
 use lib.ListN.{length, getD, take, drop, replicate}
 use lib.Seq.{sets}
+use Rattle.calendar.specs.Excluded.{excluded}
+use Rattle.calendar.specs.Weekdays.{weekend}
 use Rattle.energy.specs.declared.hours.Hours.{Hours}
 use Rattle.energy.specs.declared.reference_days.Refs.{Refs}
 
@@ -26,3 +28,7 @@ hoursIn hours from to = span (hours .at) from to
 unfoldable pub pastEvents : List ℕ → ℕ → ℕ
 pastEvents masks zero = 0
 pastEvents masks (suc d) = cond (eqb (getD masks d 0) 0) (suc d) (pastEvents masks d)
+
+-- whether a day that carries no event serves
+unfoldable pub freeServes : ℕ → ℕ → ℕ → Bool
+freeServes y day d = Bool·beq (weekend y d) (weekend y day) && not (excluded y d)

@@ -32,16 +32,16 @@ pub enum Line {
 }
 
 // The spared energy, from R, B, A and C.
-fn energy(winter: u32, book: &[u32], day: u32, hours: Hours, refs: [u32; 5]) -> u64
-    requires { ⌜ Ready winter (length (now book)) day hours refs ⌝ }
+fn energy(book: &[u32], day: u32, hours: Hours, refs: [u32; 5]) -> u64
+    requires { ⌜ Ready (length (now book)) day hours refs ⌝ }
     ensures { λ r. ⌜ r ≡ energyIn (now (book .entry)) day hours refs ⌝ }
 {
     let warm = hours.warm;
     let all = hours.all;
-    let r = trimmed_sum(winter, book, refs, hours, warm, all);
-    let b = trimmed_sum(winter, book, refs, hours, 0, warm);
-    let a = drawn_sum(winter, book, day, hours, 0, warm);
-    let c = drawn_sum(winter, book, day, hours, warm, all);
+    let r = trimmed_sum(book, refs, hours, warm, all);
+    let b = trimmed_sum(book, refs, hours, 0, warm);
+    let a = drawn_sum(book, day, hours, 0, warm);
+    let c = drawn_sum(book, day, hours, warm, all);
     spared((all - warm) as u64, warm as u64, r, b, a, c)
 }
 
@@ -68,8 +68,8 @@ fn line_in(winter: u32, book: &[u32], masks: &[u32; 152], n: Notice) -> Line
         return Line::FewDays;
     }
     let hours = hours_of(n.start, n.end);
-    let fault = first_fault(winter, book, n.day, hours, refs);
-    line_of(fault, energy(winter, book, n.day, hours, refs))
+    let fault = first_fault(book, n.day, hours, refs);
+    line_of(fault, energy(book, n.day, hours, refs))
 }
 
 // Settles one event of a winter, by the book and the masks of all events: code, place and energy. A wrong winter, book length, day or

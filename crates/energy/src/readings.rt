@@ -1,13 +1,11 @@
 // Readings of a book, and the first fault among those that an event needs.
 ghost use mathlib.Core.Path.{_≡_};
-ghost use mathlib.Core.Bool.{false};
 ghost use mathlib.Core.List.{_∷_};
 ghost use Prim.Native.Nat.{ℕ, _+_, _*_, _<_, _≤_};
 ghost use lib.ListN.{length, getD};
-ghost use Rattle.calendar.specs.Book.{noPart};
 ghost use Rattle.energy.specs.Asked.{placesOf, placesOn};
 ghost use Rattle.energy.specs.Held.{hoursIn};
-ghost use Rattle.energy.specs.Readings.{readingAt, faultOf, isClean, firstFault};
+ghost use Rattle.energy.specs.Readings.{InBook, readingAt, faultOf, isClean, firstFault};
 use crate::hours::Hours;
 
 // What is wrong with a needed reading, and where.
@@ -41,19 +39,18 @@ fn fault_of(value: u32, place: u32) -> Fault
     Fault::Clean
 }
 
-// The reading of an hour, from the day's part of the book.
-pub(crate) fn reading(winter: u32, book: &[u32], day: u32, hour: u32) -> u32
-    requires { ⌜ (noPart winter (length (now book)) day ≡ false) × (hour < 24) ⌝ }
+// The reading of an hour.
+pub(crate) fn reading(book: &[u32], day: u32, hour: u32) -> u32
+    requires { ⌜ (InBook (length (now book)) day) × (hour < 24) ⌝ }
     ensures { λ r. ⌜ r ≡ readingAt (now (book .entry)) (24 * day + hour) ⌝ }
 {
-    let part = calendar::day_readings(winter, book, day);
-    let at = hour as usize;
-    part[at]
+    let at = 24 * (day as usize) + hour as usize;
+    book[at]
 }
 
 // The first fault among a day's readings of the needed hours.
-fn day_fault(winter: u32, book: &[u32], day: u32, hours: Hours) -> Fault
-    requires { ⌜ (noPart winter (length (now book)) day ≡ false) × (hours .all ≤ 7) ⌝ }
+fn day_fault(book: &[u32], day: u32, hours: Hours) -> Fault
+    requires { ⌜ (InBook (length (now book)) day) × (hours .all ≤ 7) ⌝ }
     requires { ⌜ ((k : ℕ) → k < 7 → getD (hours .at) k 0 < 24) ⌝ }
     ensures { λ r. ⌜ r ≡ firstFault (now (book .entry)) (placesOf day (hoursIn hours 0 (hours .all))) ⌝ }
 {
@@ -62,7 +59,7 @@ fn day_fault(winter: u32, book: &[u32], day: u32, hours: Hours) -> Fault
     let mut i: usize = 0;
     while i < all {
         let hour = at[i];
-        let fault = fault_of(reading(winter, book, day, hour), 24 * day + hour);
+        let fault = fault_of(reading(book, day, hour), 24 * day + hour);
         if !is_clean(fault) {
             return fault;
         }
@@ -72,26 +69,20 @@ fn day_fault(winter: u32, book: &[u32], day: u32, hours: Hours) -> Fault
 }
 
 // The first fault among all needed readings: the event day's, and then those of the five reference days, nearest first.
-pub(crate) fn first_fault(
-    winter: u32,
-    book: &[u32],
-    day: u32,
-    hours: Hours,
-    refs: [u32; 5],
-) -> Fault
-    requires { ⌜ (noPart winter (length (now book)) day ≡ false) × (hours .all ≤ 7) ⌝ }
+pub(crate) fn first_fault(book: &[u32], day: u32, hours: Hours, refs: [u32; 5]) -> Fault
+    requires { ⌜ (InBook (length (now book)) day) × (hours .all ≤ 7) ⌝ }
     requires { ⌜ ((k : ℕ) → k < 7 → getD (hours .at) k 0 < 24) ⌝ }
-    requires { ⌜ ((k : ℕ) → k < 5 → noPart winter (length (now book)) (getD refs k 0) ≡ false) ⌝ }
+    requires { ⌜ ((k : ℕ) → k < 5 → InBook (length (now book)) (getD refs k 0)) ⌝ }
     ensures { λ r. ⌜ r ≡ firstFault (now (book .entry)) (placesOn (hoursIn hours 0 (hours .all)) (day ∷ refs)) ⌝ }
 {
-    let fault = day_fault(winter, book, day, hours);
+    let fault = day_fault(book, day, hours);
     if !is_clean(fault) {
         return fault;
     }
     let mut i: usize = 0;
     while i < 5 {
         let d = refs[i];
-        let fault = day_fault(winter, book, d, hours);
+        let fault = day_fault(book, d, hours);
         if !is_clean(fault) {
             return fault;
         }

@@ -1,8 +1,8 @@
 // The reference days of an event.
 ghost use mathlib.Core.Path.{_≡_};
 ghost use Prim.Native.Nat.{_<_};
-ghost use Rattle.energy.specs.ReferenceDays.{serves, referenceDays};
-ghost use Rattle.energy.specs.Held.{heldIn, pastEvents};
+ghost use Rattle.energy.specs.ReferenceDays.{referenceDays};
+ghost use Rattle.energy.specs.Held.{heldIn, pastEvents, freeServes};
 
 // Reference days, nearest first: the first `count` of `days`.
 pub struct Refs {
@@ -10,21 +10,17 @@ pub struct Refs {
     pub count: usize,
 }
 
-// Whether a day serves as reference: of the event day's kind, with no event at any hour, and not excluded.
-fn day_serves(winter: u32, masks: &[u32; 152], day: u32, d: u32) -> bool
-    requires { ⌜ d < 152 ⌝ }
-    ensures { λ r. ⌜ r ≡ serves winter (now (masks .entry)) day d ⌝ }
+// Whether a day that carries no event serves as reference: of the event day's kind, and not excluded.
+fn free_day_serves(winter: u32, day: u32, d: u32) -> bool
+    ensures { λ r. ⌜ r ≡ freeServes winter day d ⌝ }
 {
-    if masks[d as usize] != 0 {
-        return false;
-    }
     if calendar::is_weekend(winter, d) != calendar::is_weekend(winter, day) {
         return false;
     }
     !calendar::is_excluded(winter, d)
 }
 
-// Past the days right before d that carry an event. They serve no event, and before a late one there are many.
+// Past the days right before a day that carry an event. They serve no event, and before a late one there are many.
 fn past_events(masks: &[u32; 152], day: u32) -> u32
     requires { ⌜ day < 152 ⌝ }
     ensures { λ r. ⌜ r ≡ pastEvents (now (masks .entry)) day ⌝ }
@@ -49,7 +45,7 @@ pub(crate) fn nearest(winter: u32, masks: &[u32; 152], day: u32) -> Refs
     let mut d = past_events(masks, day);
     while (0 < d) & (count < 5) {
         d -= 1;
-        if day_serves(winter, masks, day, d) {
+        if free_day_serves(winter, day, d) {
             days[count] = d;
             count += 1;
         }

@@ -2,7 +2,7 @@
 -- Assumes nothing.
 use borrow.Author.Needs.{needs}
 use Rattle.calendar.proofs.BookLaws.{part-day}
-use Rattle.energy.proofs.LineLaws.{refs-in, line-few, line-five, ready}
+use Rattle.energy.proofs.LineLaws.{in-book, refs-in, line-few, line-five, ready}
 use Rattle.energy.proofs.lines.line_in.Statement.{statement}
 use Rattle.energy.proofs.lines.line_in.Tie as tie
 
@@ -19,7 +19,7 @@ first-fault-requires : tie.Need-first-fault-requires
 first-fault-requires c κs =
     let s = c .before .before .before .before .before in
     let hf = c .hours-of .ensures in
-    ((s .pre .0, hf .all-few .1), (hf .in-day, refs-in _ _ (s .args .n) _ (c .before .before .before .nearest .ensures) _ (s .pre .0) (c .before .if1 .left)))
+    ((in-book _ _ _ (s .pre .0), hf .all-few .1), (hf .in-day, refs-in _ _ (s .args .n) _ (c .before .before .before .nearest .ensures) _ (s .pre .0) (c .before .if1 .left)))
 
 energy-requires : tie.Need-energy-requires
 energy-requires c κs =

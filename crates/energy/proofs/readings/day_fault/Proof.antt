@@ -7,7 +7,6 @@ use native.Mathlib.Omega.{arith}
 use lib.ListN.{length}
 use borrow.Author.Needs.{needs}
 use borrow.Author.Tests.{not-true, not-false}
-use Rattle.calendar.proofs.BookLaws.{part-day}
 use Rattle.laws.proofs.Guards.{found}
 use Rattle.energy.specs.Asked.{placesOf}
 use Rattle.energy.specs.Held.{span}
@@ -17,10 +16,10 @@ use Rattle.energy.proofs.readings.day_fault.Statement.{statement}
 use Rattle.energy.proofs.readings.day_fault.Tie as tie
 
 abbrev Inv-loop : tie.InvT-loop
-Inv-loop winter book day at all i₀ i = (i ≤ all) × (firstFault book (placesOf day (span at i all)) ≡ firstFault book (placesOf day (span at 0 all)))
+Inv-loop book day at all i₀ i = (i ≤ all) × (firstFault book (placesOf day (span at i all)) ≡ firstFault book (placesOf day (span at 0 all)))
 
 abbrev μ-loop : tie.MeasureT-loop
-μ-loop winter book day at all i₀ i = all - i
+μ-loop book day at all i₀ i = all - i
 
 seven-long : (c : tie.Start Inv-loop μ-loop) → length (c .args .hours .at) ≡ 7
 seven-long c = search needs
@@ -40,10 +39,10 @@ reading-requires c κs =
     (s .pre .0 .0, s .pre .1 _ (omega arith))
 
 mul-fault-of : tie.Need-mul-fault-of Inv-loop μ-loop
-mul-fault-of c = omega (arith, part-day _ _ (c .before .before .before .before .before .args .day) (c .before .before .before .before .before .pre .0 .0))
+mul-fault-of c = omega (arith, c .before .before .before .before .before .pre .0 .0 .day)
 
 add-fault-of : tie.Need-add-fault-of Inv-loop μ-loop
-add-fault-of c = omega (arith, part-day _ _ (c .before .before .before .before .before .args .day) (c .before .before .before .before .before .pre .0 .0), c .before .before .before .before .before .pre .1 (c .before .before .loop .i) (omega arith))
+add-fault-of c = omega (arith, c .before .before .before .before .before .pre .0 .0 .day, c .before .before .before .before .before .pre .1 (c .before .before .loop .i) (omega arith))
 
 fault-of-requires : tie.Need-fault-of-requires Inv-loop μ-loop
 fault-of-requires c κs = search needs

@@ -17,13 +17,13 @@ use Rattle.energy.proofs.readings.first_fault.Statement.{statement}
 use Rattle.energy.proofs.readings.first_fault.Tie as tie
 
 abbrev Inv-loop : tie.InvT-loop
-Inv-loop winter book day hours refs i₀ i =
+Inv-loop book day hours refs i₀ i =
     (i ≤ 5) × (firstFault book (placesOn (hoursIn hours 0 (hours .all)) (drop i refs)) ≡ firstFault book (placesOn (hoursIn hours 0 (hours .all)) (day ∷ refs)))
 
 abbrev μ-loop : tie.MeasureT-loop
-μ-loop winter book day hours refs i₀ i = 5 - i
+μ-loop book day hours refs i₀ i = 5 - i
 
-five-long : (c : tie.Start Inv-loop μ-loop) → length (c .args .t5) ≡ 5
+five-long : (c : tie.Start Inv-loop μ-loop) → length (c .args .t4) ≡ 5
 five-long c = search needs
 
 day-fault-requires : tie.Need-day-fault-requires Inv-loop μ-loop
@@ -73,7 +73,7 @@ loop-again : tie.Need-loop-again Inv-loop μ-loop
 loop-again c =
     let s = c .before .before .before .before .before .before .before .before .before in (
       search needs,
-      ref-clean (s .args .book .now) (hoursIn (s .args .hours) 0 (s .args .hours .all)) (s .args .t5) (c .before .before .before .before .loop .i) (omega (arith, five-long s)) _ (c .before .before .day-fault2 .ensures)
+      ref-clean (s .args .book .now) (hoursIn (s .args .hours) 0 (s .args .hours .all)) (s .args .t4) (c .before .before .before .before .loop .i) (omega (arith, five-long s)) _ (c .before .before .day-fault2 .ensures)
           (found (c .before .is-clean2 .ensures) (not-false _ (c .if2 .left)))
           ∙ c .before .before .before .before .loop .inv .1,
     )

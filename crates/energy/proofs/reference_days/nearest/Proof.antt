@@ -1,17 +1,20 @@
 -- `nearest` finds the reference days: the five nearest days that serve, or as many as there are.
--- The invariant: with `count` of them stored, the others are the nearest days before d that serve.
+-- The invariant: with `count` of them stored, the others are the nearest days before d that serve; and the
+-- day right before d carries no event.
 -- Assumes nothing.
-use Prim.Native.Nat.{_≤_, _-_}
+use Prim.Native.Nat.{_≤_, _<_, _-_}
 use mathlib.Core.Logic.{⊎-elim}
-use mathlib.Core.Path.{sym, _∙_}
+use mathlib.Core.Path.{_≡_, sym, _∙_}
 use native.Mathlib.Omega.{arith}
+use lib.ListN.{getD}
+use borrow.Author.Needs.{needs}
 use Rattle.energy.specs.ReferenceDays.{serves, referenceDays}
-use Rattle.energy.proofs.ReferenceLaws.{Search, goes-on, search-start, search-took, search-passed, search-ends, search-past, past-le}
+use Rattle.energy.proofs.ReferenceLaws.{Search, goes-on, search-start, search-took, search-passed, search-ends, search-past, past-le, past-free, free-day}
 use Rattle.energy.proofs.reference_days.nearest.Statement.{statement}
 use Rattle.energy.proofs.reference_days.nearest.Tie as tie
 
 abbrev Inv-loop : tie.InvT-loop
-Inv-loop winter masks day days₀ count₀ d₀ days count d = (d ≤ day) × Search (serves winter masks day) (referenceDays winter masks day) days count d
+Inv-loop winter masks day days₀ count₀ d₀ days count d = (d ≤ day) × Search (serves winter masks day) (referenceDays winter masks day) days count d × (0 < d → getD masks (d - 1) 0 ≡ 0)
 
 abbrev μ-loop : tie.MeasureT-loop
 μ-loop winter masks day days₀ count₀ d₀ days count d = d
@@ -22,13 +25,13 @@ past-events-requires c κs = omega arith
 loop-holds : tie.Need-loop-holds Inv-loop μ-loop
 loop-holds c =
     let a = c .before .args in
-    rw (c .past-events .ensures) (past-le (a .masks .now) (a .day), search-past _ _ _ _ _ _ (a .day) (search-start _ _ _))
+    rw (c .past-events .ensures) (past-le (a .masks .now) (a .day), search-past _ _ _ _ _ _ (a .day) (search-start _ _ _), past-free (a .masks .now) (a .day))
 
 sub-d : tie.Need-sub-d Inv-loop μ-loop
 sub-d c = omega (arith, goes-on (c .before .loop .d) (c .before .loop .count) (c .loop-test .taken))
 
-day-serves-requires : tie.Need-day-serves-requires Inv-loop μ-loop
-day-serves-requires c κs = omega (arith, goes-on (c .before .loop .d) (c .before .loop .count) (c .loop-test .taken))
+free-day-serves-requires : tie.Need-free-day-serves-requires Inv-loop μ-loop
+free-day-serves-requires c κs = search needs
 
 mul-days : tie.Need-mul-days Inv-loop μ-loop
 mul-days c =
@@ -62,13 +65,15 @@ loop-again c =
     let l = s .before .before .loop in
     let a = s .before .before .before .before .args in
     let g = goes-on (l .d) (l .count) (s .before .loop-test .taken) in
+    let f = s .free-day-serves .ensures ∙ free-day (a .winter) (a .masks .now) (a .day) (l .d - 1) (l .inv .2 (g .0)) in
     rw (c .past-events2 .ensures) (
       omega (arith, past-le (a .masks .now) (l .d - 1)),
       search-past _ _ _ _ _ _ (l .d - 1)
           (⊎-elim
-          (λ w. rw (w .1, w .2) (search-took _ _ (l .days) (l .count) (l .d) g (sym (s .day-serves .ensures) ∙ w .0 .taken) (l .inv .1)))
-          (λ w. rw (w .1, w .2) (search-passed _ _ (l .days) (l .count) (l .d) g (sym (s .day-serves .ensures) ∙ w .0 .left) (l .inv .1)))
+          (λ w. rw (w .1, w .2) (search-took _ _ (l .days) (l .count) (l .d) g (sym f ∙ w .0 .taken) (l .inv .1)))
+          (λ w. rw (w .1, w .2) (search-passed _ _ (l .days) (l .count) (l .d) g (sym f ∙ w .0 .left) (l .inv .1)))
           (c .before .if1 .came)),
+      past-free (a .masks .now) (l .d - 1),
     )
 
 returns : tie.Need-returns Inv-loop μ-loop
@@ -85,7 +90,7 @@ nearest-spec =
     past-events-requires
     loop-holds
     sub-d
-    day-serves-requires
+    free-day-serves-requires
     mul-days
     array-write-days
     add-count

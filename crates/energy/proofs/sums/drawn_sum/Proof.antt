@@ -13,11 +13,11 @@ use Rattle.energy.proofs.sums.drawn_sum.Statement.{statement}
 use Rattle.energy.proofs.sums.drawn_sum.Tie as tie
 
 abbrev Inv-loop : tie.InvT-loop
-Inv-loop winter book day from to at sum₀ i₀ sum i =
+Inv-loop book day from to at sum₀ i₀ sum i =
     (from ≤ i) × (i ≤ to) × (sum ≤ i * 2 ^ 33) × (sum + sumOver (drawnAt book day) (span at i to) ≡ sumOver (drawnAt book day) (span at from to))
 
 abbrev μ-loop : tie.MeasureT-loop
-μ-loop winter book day from to at sum₀ i₀ sum i = to - i
+μ-loop book day from to at sum₀ i₀ sum i = to - i
 
 seven-long : (c : tie.Start Inv-loop μ-loop) → length (c .args .hours .at) ≡ 7
 seven-long c = search needs

@@ -40,13 +40,13 @@ array-read-reading-5 c = search needs
 reading-requires-5 : tie.Need-reading-requires-5
 reading-requires-5 c κs = (c .before .before .before .before .before .pre .1 4 (omega arith), c .before .before .before .before .before .pre .0)
 
-five-long : (c : tie.Start) → length (c .args .t3) ≡ 5
+five-long : (c : tie.Start) → length (c .args .t2) ≡ 5
 five-long c = search needs
 
 returns : tie.Need-returns
 returns c =
     let s = c .before .before .before .before .before .before in
-    five-mapped (λ (d : ℕ). drawnAt (s .args .book .now) d (s .args .hour)) (s .args .t3) _ _ _ _ _ (five-long s) (c .before .before .before .before .reading .ensures) (c .before .before .before .reading2 .ensures) (c .before .before .reading3 .ensures) (c .before .reading4 .ensures) (c .reading5 .ensures)
+    five-mapped (λ (d : ℕ). drawnAt (s .args .book .now) d (s .args .hour)) (s .args .t2) _ _ _ _ _ (five-long s) (c .before .before .before .before .reading .ensures) (c .before .before .before .reading2 .ensures) (c .before .before .reading3 .ensures) (c .before .reading4 .ensures) (c .reading5 .ensures)
 
 pub five-readings-spec : {M : Type 1} → statement M
 five-readings-spec =

@@ -14,11 +14,11 @@ use Rattle.energy.proofs.sums.trimmed_sum.Statement.{statement}
 use Rattle.energy.proofs.sums.trimmed_sum.Tie as tie
 
 abbrev Inv-loop : tie.InvT-loop
-Inv-loop winter book refs from to at sum₀ i₀ sum i =
+Inv-loop book refs from to at sum₀ i₀ sum i =
     (from ≤ i) × (i ≤ to) × (sum ≤ i * 2 ^ 36) × (sum + sumOver (trimmedAt book refs) (span at i to) ≡ sumOver (trimmedAt book refs) (span at from to))
 
 abbrev μ-loop : tie.MeasureT-loop
-μ-loop winter book refs from to at sum₀ i₀ sum i = to - i
+μ-loop book refs from to at sum₀ i₀ sum i = to - i
 
 seven-long : (c : tie.Start Inv-loop μ-loop) → length (c .args .hours .at) ≡ 7
 seven-long c = search needs
