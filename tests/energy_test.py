@@ -21,7 +21,7 @@ from event_books import (
 )
 from harness import (
     Failure, ask_layer, check_built_for, check_possible, check_same_lines, check_short_input,
-    run_tests, written_groups,
+    make_groups, run_tests, written_groups,
 )
 from notice_lists import FAR_DAYS, FAR_HOURS, FARTHEST, every_shape, flat
 from second import energies, notices, winters
@@ -627,9 +627,7 @@ def check_short_last_piece():
 
 def all_tests():
     """Every test, as its name and a check that raises Failure."""
-    groups = [(name, make()) for name, make in GROUPS]
-    asked = sum(len(cases) for _, cases in groups)
-    built = sum(case.built_for is not None for _, cases in groups for case in cases)
+    groups, asked, built = make_groups(GROUPS)
     answered = []
     return [
         ("second program's books step by step", check_second_books),

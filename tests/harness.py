@@ -82,6 +82,14 @@ def check_same_lines(queries, said, right):
         raise Failure(f"lines that differ: {len(differences)}; the first:{''.join(shown)}")
 
 
+def make_groups(groups):
+    """The cases of each group beside its name, how many there are in all, and how many of
+    them were built for an answer."""
+    made = [(name, make()) for name, make in groups]
+    cases = [case for _, group in made for case in group]
+    return made, len(cases), sum(case.built_for is not None for case in cases)
+
+
 def check_built_for(built, given):
     """The cases that were built for an answer got it: `given` has each of them, `built` in
     number, with what it got."""

@@ -11,7 +11,7 @@ use lib.ListN.{length}
 use borrow.Author.Tests.{eq-eqb, eqb-true}
 use Rattle.calendar.proofs.Promise.{days-two}
 use Rattle.calendar.specs.Winters.{days}
-use Rattle.money.proofs.RefusalLaws.{Sound}
+use Rattle.money.proofs.RefusalLaws.{RightCall}
 use Rattle.schedule.proofs.Bounds.{bad-lists-alike, one-is-bad}
 use Rattle.schedule.proofs.Walk.{list-fits}
 use Rattle.schedule.specs.ListCheck.{badList, checkAnswer}
@@ -70,13 +70,13 @@ read-checks w profile list numbers e = by (badList (numbersIn (length list))) re
         rw (read-whole list numbers (e ∙ room-cases (length list) false q ∙ g .1), decoded-whole list (g .0))
 
 -- the settlement: lengths that are not refused are of whole numbers, and there is room for them
-pub record Right (book list out : ℕ) : Type 0 where
+pub record RightLengths (book list out : ℕ) : Type 0 where
   pub book-whole : book % 4 ≡ 0
   pub list-whole : list % 4 ≡ 0
   pub lines-fit : 4 * (list / 4 / 3) ≤ out / 8
   pub lengths : Lengths book list out
 
-pub right-lengths : (w p book list out : ℕ) → Sound w (numbersIn book) p (numbersIn list) (out / 8) → Right book list out
+pub right-lengths : (w p book list out : ℕ) → RightCall w (numbersIn book) p (numbersIn list) (out / 8) → RightLengths book list out
 right-lengths w p book list out s =
     let most : days w ≤ 152 = ⊎-elim (λ (e : days w ≡ 151). omega arith) (λ (e : days w ≡ 152). omega arith) (days-two w) in
     let some : 151 ≤ days w = ⊎-elim (λ (e : days w ≡ 151). omega arith) (λ (e : days w ≡ 152). omega arith) (days-two w) in

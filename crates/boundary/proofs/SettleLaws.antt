@@ -7,7 +7,7 @@ use native.Mathlib.Omega.{arith}
 use lib.ListN.{length}
 use borrow.Author.Tests.{eq-eqb, ne-eqb}
 use Rattle.laws.specs.Table.{refusalAt, firstOf}
-use Rattle.money.proofs.RefusalLaws.{call-sound}
+use Rattle.money.proofs.RefusalLaws.{call-right}
 use Rattle.money.proofs.SettlementLaws.{number-is, settled-accepted, settlement-within, call-refused, settled-room, written-just}
 use Rattle.money.specs.Lines.{eventAt, linesTo}
 use Rattle.money.specs.Refusals.{callRows}
@@ -20,7 +20,7 @@ use Rattle.wire.specs.Bytes.{numbersRead, bytesWritten}
 use Rattle.boundary.specs.Calls.{packed, packedSettlement, linesOver, settledOver, settleCall, settleBytes}
 use Rattle.boundary.specs.Lent.{numbersIn, decoded}
 use Rattle.boundary.specs.Whole.{wholeNumbers, wholeCall, wholeBytes}
-use Rattle.boundary.proofs.LentLaws.{Right, decoded-long, decoded-whole, right-lengths}
+use Rattle.boundary.proofs.LentLaws.{RightLengths, decoded-long, decoded-whole, right-lengths}
 
 -- what was read with just the room for it
 pub read-is : (bytes numbers : List ℕ) → length numbers ≡ length bytes / 4 → numbersRead bytes numbers ≡ wholeNumbers bytes
@@ -45,11 +45,11 @@ module _ (w p : ℕ) (book list out : List ℕ) (readings numbers number : ℕ) 
   unfolding settleBytes settledOver
   refused-bytes f = rw (← refusal-is f, ne-eqb number 0 f)
 
-  pub right-call : number ≡ 0 → Right (length book) (length list) (length out)
-  right-call z = right-lengths w p (length book) (length list) (length out) (rw (← b, ← l) (call-sound w readings p numbers (length out / 8) (rw (← e, z))))
+  pub right-call : number ≡ 0 → RightLengths (length book) (length list) (length out)
+  right-call z = right-lengths w p (length book) (length list) (length out) (rw (← b, ← l) (call-right w readings p numbers (length out / 8) (rw (← e, z))))
 
 -- on bytes of the right lengths it is the settlement of their whole numbers
-module _ (w p : ℕ) (book list out : List ℕ) (r : Right (length book) (length list) (length out)) where
+module _ (w p : ℕ) (book list out : List ℕ) (r : RightLengths (length book) (length list) (length out)) where
   room-is : settlement w (wholeNumbers book) p (wholeNumbers list) (4 * countOf (wholeNumbers list)) ≡ settlement w (decoded book) p (decoded list) (length out / 8)
   unfolding wholeNumbers
   room-is =

@@ -23,7 +23,7 @@ use Rattle.money.specs.Settlement.{settlement, linesIn, written}
 use Rattle.money.specs.Worth.{centParts, exactWorth, roundedWorth}
 use Rattle.money.specs.declared.lines.Event.{Event}
 use Rattle.money.proofs.LineLaws.{cents-next, lines-long}
-use Rattle.money.proofs.RefusalLaws.{settlement-sound, list-accepted}
+use Rattle.money.proofs.RefusalLaws.{settlement-right, list-accepted}
 use Rattle.money.proofs.Runs.{run-same, energy-first, cents-first, events-near, events-near-first, code-is, place-is, energy-is, cents-is}
 use Rattle.money.proofs.SettlementLaws.{number-is, settled-accepted, written-accepted}
 use Rattle.money.proofs.WorthLaws.{Near, NearHalf}
@@ -81,7 +81,7 @@ module _ (w p : ℕ) (book l out : List ℕ) (ok : settlement w book p l (length
       → eventAnswer w book (masksOf l) (noticeAt l k) ≡ given (codeIn output k ∷ placeIn output k ∷ energyIn output k ∷ [])
   unfolding eventBy
   line-is-answer k h =
-      let s = settlement-sound w (length book) p l (length out) none in
+      let s = settlement-right w (length book) p l (length out) none in
       let r = accepted-iff-lawful w Credit l .0 (list-accepted w (length book) p l (length out) none) in
       event-given w book (masksOf l) (noticeAt l k) (s .winter) (s .book) (r .each k h)
       ∙ rw (output-is, code-is p events (drop (4 * n) out) n k h, place-is p events (drop (4 * n) out) n k h, energy-is p events (drop (4 * n) out) n k h)

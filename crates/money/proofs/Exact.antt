@@ -18,7 +18,7 @@ use Rattle.schedule.specs.Profiles.{figuresOf}
 use Rattle.schedule.specs.declared.profiles.Profile.the-variants.{Credit}
 use Rattle.money.specs.Refusals.{callRows, refusalOf}
 use Rattle.money.specs.Settlement.{refusedWith, settlement, written}
-use Rattle.money.proofs.RefusalLaws.{Sound, call-sound, settlement-sound, list-accepted, sound-accepted}
+use Rattle.money.proofs.RefusalLaws.{RightCall, call-right, settlement-right, list-accepted, right-accepted}
 use Rattle.money.proofs.SettlementLaws.{number-is, settled-accepted, settled-by, written-by}
 
 -- all that a settlement asks: DEMAND 2, "A list is accepted exactly when it keeps every rule of its profile", with the call's own rules
@@ -31,11 +31,11 @@ pub record Settles (w readings p : ℕ) (l : List ℕ) (room : ℕ) : Type 0 whe
 pub accepted-iff-settles : (w p : ℕ) (book l : List ℕ) (room : ℕ) → (settlement w book p l room .number ≡ 0) ↔ Settles w (length book) p l room
 accepted-iff-settles w p book l room = (
   λ e. let n = number-is w p book l room e in
-      let s = settlement-sound w (length book) p l room n in
+      let s = settlement-right w (length book) p l room n in
       record { book = s .book; price = s .price; list = accepted-iff-lawful w Credit l .0 (list-accepted w (length book) p l room n); room-for = s .room-for },
   λ s. let r = s .list in
-      let c : Sound w (length book) p (length l) room = record { winter = r .winter; book = s .book; price = s .price; whole = r .whole; few = r .few; room-for = s .room-for } in
-      rw (settled-accepted w p book l room (sound-accepted w (length book) p l room c (accepted-iff-lawful w Credit l .1 r))) refl,
+      let c : RightCall w (length book) p (length l) room = record { winter = r .winter; book = s .book; price = s .price; whole = r .whole; few = r .few; room-for = s .room-for } in
+      rw (settled-accepted w p book l room (right-accepted w (length book) p l room c (accepted-iff-lawful w Credit l .1 r))) refl,
 )
 
 -- the first broken row of the call, at place 0
@@ -45,7 +45,7 @@ pub record ByCall (w p : ℕ) (book l out : List ℕ) : Type 0 where
 
 -- or else what the list check refuses under profile 1, past a call that is right
 pub record ByNotices (w p : ℕ) (book l out : List ℕ) : Type 0 where
-  pub call : Sound w (length book) p (length l) (length out)
+  pub call : RightCall w (length book) p (length l) (length out)
   pub why : WhyRefused w 1 l (checkAnswer w 1 l)
   pub answer : settlement w book p l (length out) ≡ refusedWith (checkAnswer w 1 l .number) (getD (checkAnswer w 1 l .values) 0 0)
 
@@ -61,7 +61,7 @@ module _ (w p : ℕ) (book l out : List ℕ) (e : isRefusal (refusalOf w (length
   by-notices : isRefusal (firstOf 0 rows) ≡ false → refusalOf w (length book) p l (length out) ≡ checkAnswer w 1 l → ByNotices w p book l out
   by-notices q a =
       record {
-        call = call-sound w (length book) p (length l) (length out) q;
+        call = call-right w (length book) p (length l) (length out) q;
         why = first-refusal w 1 l (sym (ap isRefusal a) ∙ e);
         answer = settled-by w p book l (length out) e ∙ rw a refl;
       }

@@ -72,7 +72,7 @@ module _ (w readings p : ℕ) (l : List ℕ) (room number : ℕ) (e : refusalAt 
   refusal-notices z a q = rw (← e) (else-go (refusalAt number 0) (checkAnswer w 1 l) (rw z) q)
 
 -- what holds of a call that is not refused
-pub record Sound (w readings p numbers room : ℕ) : Type 0 where
+pub record RightCall (w readings p numbers room : ℕ) : Type 0 where
   pub winter : (2010 ≤ w) × (w ≤ 2098)
   pub book : readings ≡ 24 * days w
   pub price : (1 ≤ p) × (p ≤ 1000000)
@@ -84,9 +84,9 @@ rows-numbered : (w readings p numbers room : ℕ) → Numbered (callRows w readi
 unfolding callRows
 rows-numbered w readings p numbers room = (omega arith, (omega arith, (omega arith, (omega arith, (omega arith, tt)))))
 
-pub call-sound : (w readings p numbers room : ℕ) → isRefusal (firstOf 0 (callRows w readings p numbers room)) ≡ false → Sound w readings p numbers room
+pub call-right : (w readings p numbers room : ℕ) → isRefusal (firstOf 0 (callRows w readings p numbers room)) ≡ false → RightCall w readings p numbers room
 unfolding callRows badBook badPrice shortOutput
-call-sound w readings p numbers room e =
+call-right w readings p numbers room e =
     let rows = callRows w readings p numbers room in
     let n = accepted-none 0 rows (rows-numbered w readings p numbers room) (not-refused 0 rows (rows-numbered w readings p numbers room) e) in
     let prices = neither (ltb p 1) (ltb 1000000 p) (n .1 .1 .0) in
@@ -99,23 +99,23 @@ call-sound w readings p numbers room e =
       room-for = ltb-false room (4 * (numbers / 3)) (n .1 .1 .1 .1 .0);
     }
 
--- a settlement that is not refused: the call is sound, and the list check accepts the list
+-- a settlement that is not refused: the call is right, and the list check accepts the list
 module _ (w readings p : ℕ) (l : List ℕ) (room : ℕ) (e : isRefusal (refusalOf w readings p l room) ≡ false) where
   parts : (isRefusal (firstOf 0 (callRows w readings p (length l) room)) ≡ false) × (isRefusal (checkAnswer w 1 l) ≡ false)
   unfolding refusalOf
   parts = else-none (firstOf 0 (callRows w readings p (length l) room)) (checkAnswer w 1 l) e
 
-  pub settlement-sound : Sound w readings p (length l) room
-  settlement-sound = call-sound w readings p (length l) room (parts .0)
+  pub settlement-right : RightCall w readings p (length l) room
+  settlement-right = call-right w readings p (length l) room (parts .0)
 
   pub list-accepted : checkAnswer w 1 l ≡ accepted
   list-accepted = check-accepted w 1 l (parts .1)
 
--- and the other way: a sound call with a list that the list check accepts
-pub sound-accepted : (w readings p : ℕ) (l : List ℕ) (room : ℕ) → Sound w readings p (length l) room → checkAnswer w 1 l ≡ accepted
+-- and the other way: a right call with a list that the list check accepts
+pub right-accepted : (w readings p : ℕ) (l : List ℕ) (room : ℕ) → RightCall w readings p (length l) room → checkAnswer w 1 l ≡ accepted
     → isRefusal (refusalOf w readings p l room) ≡ false
 unfolding refusalOf callRows badBook badPrice shortOutput
-sound-accepted w readings p l room s e =
+right-accepted w readings p l room s e =
     let prices : (ltb p 1 || ltb 1000000 p) ≡ false = rw (le-ltb p 1 (s .price .0), le-ltb 1000000 p (s .price .1)) refl in
     let book : not (eqb readings (24 * days w)) ≡ false = rw (eq-eqb readings (24 * days w) (s .book)) refl in
     let rows : firstOf 0 (callRows w readings p (length l) room) ≡ accepted =

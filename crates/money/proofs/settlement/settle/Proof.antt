@@ -3,7 +3,7 @@
 use mathlib.Core.Path.{_∙_, sym}
 use lib.ListN.{length}
 use borrow.Author.Needs.{needs}
-use Rattle.money.proofs.RefusalLaws.{settlement-sound}
+use Rattle.money.proofs.RefusalLaws.{settlement-right}
 use Rattle.money.proofs.SettlementLaws.{is-refused, not-refused, settled-refused, settled-accepted, written-by, written-accepted}
 use Rattle.money.proofs.settlement.settle.Statement.{statement}
 use Rattle.money.proofs.settlement.settle.Tie as tie
@@ -24,7 +24,7 @@ settle-accepted-requires c κs =
     let i = c .before in
     let a = i .before .before .before .before .before .args in
     let n = not-refused _ _ (a .book .now) _ (length (a .out .now)) _ _ (i .before .refusal-of .ensures) (i .if1 .left) in
-    let s = settlement-sound (a .winter) (length (a .book .now)) (a .price) (a .list .now) (length (a .out .now)) n in
+    let s = settlement-right (a .winter) (length (a .book .now)) (a .price) (a .list .now) (length (a .out .now)) n in
     (s .room-for, s .few, s .price .1)
 
 same-length : tie.Need-same-length
