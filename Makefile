@@ -41,6 +41,8 @@ test:
 
 bench: $(proved)
 	bench/run
+	rt check statement
+	bench/run-statement
 
 clean:
 	rm -rf build

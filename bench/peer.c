@@ -121,6 +121,11 @@ static bool is_winter(uint32_t year)
     return FIRST_WINTER <= year && year <= LAST_WINTER;
 }
 
+uint32_t peer_days(uint32_t winter)
+{
+    return is_winter(winter) ? winter_of(winter).days : 0;
+}
+
 static bool is_weekend(const struct winter *winter, uint32_t day)
 {
     uint32_t weekday = (winter->first_weekday + day) % 7;

@@ -20,23 +20,26 @@ class Failure(Exception):
     """A test that failed; the text says why."""
 
 
-def run_script(name, script, arguments, given):
-    """The bytes that a program prints for this input; a script runs it."""
+def ended(name, command, **others):
+    """A command's run, once it has ended with exit status 0."""
     try:
-        run = subprocess.run(
-            [ROOT / "scripts" / script, *arguments],
-            input=given, capture_output=True, timeout=SECONDS_ALLOWED,
-        )
+        run = subprocess.run(command, timeout=SECONDS_ALLOWED, **others)
     except OSError as error:
-        raise Failure(f"cannot run {name} by scripts/{script}: {error.strerror}") from None
+        raise Failure(f"cannot run {name} by {Path(command[0]).name}: {error.strerror}") from None
     except subprocess.TimeoutExpired:
         raise Failure(f"{name} ran longer than {SECONDS_ALLOWED} seconds") from None
     if run.returncode < 0:
         raise Failure(f"{name} was ended by signal {-run.returncode}")
     if run.returncode > 0:
-        reason = run.stderr.decode(errors="backslashreplace").strip()
+        reason = (run.stderr or b"").decode(errors="backslashreplace").strip()
         raise Failure(f"{name} ended with exit status {run.returncode}: {reason}")
-    return run.stdout
+    return run
+
+
+def run_script(name, script, arguments, given):
+    """The bytes that a program prints for this input; a script runs it."""
+    command = [ROOT / "scripts" / script, *arguments]
+    return ended(name, command, input=given, capture_output=True).stdout
 
 
 def run_program(program, text):

@@ -522,25 +522,28 @@ def check_untouched(answered):
         raise Failure("there were none of a kind")
 
 
+def check_worth(lines, price):
+    """Demand 3, on an accepted call's own lines, with fractions. Of the lines up to each one,
+    the cents less the exact worth are at most a half to either side. A run of lines is those
+    up to its last less those before its first, so over all runs the largest difference is
+    that between the highest and the lowest of these: it is below 1. The cents in all are the
+    worth of all energy, rounded. Gives the number of runs."""
+    cents = list(accumulate((line.cents for line in lines), initial=0))
+    amounts = accumulate((line.energy for line in lines), initial=0)
+    exact = [Fraction(energy * price, 18_000_000) for energy in amounts]
+    off = [one - other for one, other in zip(cents, exact)]
+    if max(map(abs, off)) > Fraction(1, 2):
+        raise Failure(f"more than half a cent off from the first line: {price}, {lines}")
+    if max(off) - min(off) >= 1:
+        raise Failure(f"a run of lines is a cent off or more: {price}, {lines}")
+    if cents[-1] != settlements.rounded(exact[-1]):
+        raise Failure(f"the cents are not the rounded worth in all: {price}, {lines}")
+    return len(lines) * (len(lines) + 1) // 2
+
+
 def check_runs(answered):
-    """Demand 3, on the library's own lines, with fractions. Of the lines up to each one, the
-    cents less the exact worth are at most a half to either side. A run of lines is those up
-    to its last less those before its first, so over all runs the largest difference is that
-    between the highest and the lowest of these: it is below 1. The sums, which C adds up,
-    are the worth of all energy, rounded."""
-    runs = 0
-    for case, lines in settled_rows(answered):
-        cents = list(accumulate((line.cents for line in lines), initial=0))
-        amounts = accumulate((line.energy for line in lines), initial=0)
-        exact = [Fraction(energy * case.query.price, 18_000_000) for energy in amounts]
-        off = [one - other for one, other in zip(cents, exact)]
-        if max(map(abs, off)) > Fraction(1, 2):
-            raise Failure(f"more than half a cent off from the first line: {case.query}")
-        if max(off) - min(off) >= 1:
-            raise Failure(f"a run of lines is a cent off or more: {case.query}")
-        if cents[-1] != settlements.rounded(exact[-1]):
-            raise Failure(f"the cents are not the rounded worth in all: {case.query}")
-        runs += len(lines) * (len(lines) + 1) // 2
+    """Demand 3 on all lines that the library gave; their sums are those that C adds up."""
+    runs = sum(check_worth(lines, case.query.price) for case, lines in settled_rows(answered))
     print(f"  runs of lines: {runs}")
     if runs == 0:
         raise Failure("there was no line")

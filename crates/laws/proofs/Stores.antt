@@ -1,10 +1,10 @@
 -- Stores in a row, for loops that fill a lent slice from its front.
 -- Assumes nothing.
-use Prim.Native.Nat.{ℕ, _+_, _≤_}
-use mathlib.Core.List.{List, _++_}
-use mathlib.Core.Path.{_≡_, ap, sym, _∙_}
+use Prim.Native.Nat.{ℕ, zero, suc, _+_, _≤_}
+use mathlib.Core.List.{List, [], _∷_, _++_, append-nil}
+use mathlib.Core.Path.{_≡_, refl, ap, sym, _∙_}
 use native.Mathlib.Omega.{arith}
-use lib.ListN.{length, take, drop, length-append, length-drop}
+use lib.ListN.{length, take, drop, replicate, length-append, length-drop, drop-of-length-le}
 use lib.Seq.{sets, sets-eq, take-at, drop-append-add, drop-drop}
 
 -- stores that start where the done part xs ends make it longer by what they store, and leave the rest of the slice l as it was
@@ -16,3 +16,16 @@ sets-front xs l vs i e h =
     sets-eq vs (xs ++ drop i l) i fits
     ∙ ap (λ (r : List ℕ). r ++ vs ++ drop (i + length vs) (xs ++ drop i l)) done
     ∙ ap (λ (r : List ℕ). xs ++ vs ++ r) (ap (λ (k : ℕ). drop (k + length vs) (xs ++ drop i l)) (sym e) ∙ rest)
+
+-- stores over a whole slice leave what they store
+pub sets-whole : (l vs : List ℕ) → length vs ≡ length l → sets l 0 vs ≡ vs
+sets-whole l vs e =
+    let fits : 0 + length vs ≤ length l = omega arith in
+    let none : length l ≤ 0 + length vs = omega arith in
+    sets-eq vs l 0 fits ∙ ap (λ (r : List ℕ). vs ++ r) (drop-of-length-le l none) ∙ append-nil vs
+
+-- the front of a slice of equal numbers
+pub take-replicate : (n m a : ℕ) → n ≤ m → take n (replicate m a) ≡ replicate n a
+take-replicate zero m a h = refl
+take-replicate (suc n) zero a h = absurd (omega arith)
+take-replicate (suc n) (suc m) a h = ap (λ (l : List ℕ). a ∷ l) (take-replicate n m a (omega arith))

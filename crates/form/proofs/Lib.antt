@@ -1,0 +1,12 @@
+pub mod NumberLaws
+pub mod LineLaws
+pub mod PlaceLaws
+pub mod SaidLaws
+pub mod ReadNumbers
+pub mod ReadLines
+pub mod RoundTrip
+pub mod WrittenNumbers
+pub mod WrittenLines
+pub mod Converse
+pub mod Formed
+pub mod NoneLeftOut

@@ -1,0 +1,93 @@
+-- The text of some values, as document 01 writes it, and what those values say.
+-- Assumes nothing.
+use Prim.Native.Nat.{ℕ, _+_, _≤_}
+use mathlib.Core.Bool.{cond}
+use mathlib.Core.List.{List, [], _∷_, _++_, map}
+use lib.ListN.{length}
+use lib.Seq.{sets}
+use Rattle.laws.proofs.Every.{Every}
+use Rattle.numerals.specs.Lines.{Line, line, bytesOfLines}
+use Rattle.form.specs.Numbers.{largest}
+use Rattle.form.specs.Places.{placeOf, misplaced}
+
+pub record EventLine : Type 0 where
+  pub day : ℕ
+  pub start : ℕ
+  pub end : ℕ
+
+pub record ReadLine : Type 0 where
+  pub day : ℕ
+  pub hour : ℕ
+  pub values : List ℕ
+
+pub record Document : Type 0 where
+  pub winter : ℕ
+  pub price : ℕ
+  pub events : List EventLine
+  pub reads : List ReadLine
+
+-- `event=day,s,e`
+abbrev pub eventLine : EventLine → Line
+eventLine x = line "event=" (x .day ∷ x .start ∷ x .end ∷ [])
+
+-- `read=day,hour,v,..`
+abbrev pub readLine : ReadLine → Line
+readLine x = line "read=" (x .day ∷ x .hour ∷ x .values)
+
+-- "`winter=`, `price=`, `events=n`, n lines `event=day,s,e`, `reads=m`, m lines `read=day,hour,v,..`"
+unfoldable pub documentLines : Document → List Line
+documentLines d =
+    line "winter=" (d .winter ∷ [])
+    ∷ line "price=" (d .price ∷ [])
+    ∷ line "events=" (length (d .events) ∷ [])
+    ∷ (map eventLine (d .events) ++ (line "reads=" (length (d .reads) ∷ []) ∷ map readLine (d .reads)))
+
+abbrev pub textOf : Document → List ℕ
+textOf d = bytesOfLines (documentLines d)
+
+-- "at most 4294967294"
+abbrev pub Small : ℕ → Type 0
+Small n = n ≤ largest
+
+pub record SmallEvent (x : EventLine) : Type 0 where
+  pub day : Small (x .day)
+  pub start : Small (x .start)
+  pub end : Small (x .end)
+
+-- "with 1 to 24 values"
+pub record SmallRead (x : ReadLine) : Type 0 where
+  pub day : Small (x .day)
+  pub hour : Small (x .hour)
+  pub values : Every Small (x .values)
+  pub some : 1 ≤ length (x .values)
+  pub few : length (x .values) ≤ 24
+
+-- values that can be written in the form
+pub record Writable (d : Document) : Type 0 where
+  pub winter : Small (d .winter)
+  pub price : Small (d .price)
+  pub count : Small (length (d .events))
+  pub events : Every SmallEvent (d .events)
+  pub counted : Small (length (d .reads))
+  pub reads : Every SmallRead (d .reads)
+
+-- the list of notices
+unfoldable pub noticesIn : List EventLine → List ℕ
+noticesIn [] = []
+noticesIn (x ∷ xs) = x .day ∷ x .start ∷ x .end ∷ noticesIn xs
+
+-- the first read line that is misplaced, or 0: the next of them is the kth line
+unfoldable pub misplacedIn : ℕ → List ReadLine → ℕ → ℕ → ℕ
+misplacedIn days [] k end = 0
+misplacedIn days (x ∷ xs) k end =
+    cond (misplaced days end (x .day) (x .hour) (length (x .values))) k
+    (misplacedIn days xs (k + 1) (placeOf (x .day) (x .hour) + length (x .values)))
+
+-- the first line of the text that is so misplaced, or 0
+abbrev pub misplacedLineIn : ℕ → Document → ℕ
+misplacedLineIn days d = misplacedIn days (d .reads) (length (d .events) + 4 + 1) 0
+
+-- the book once the read lines are put into it
+unfoldable pub bookIn : List ReadLine → List ℕ → List ℕ
+bookIn [] book = book
+bookIn (x ∷ xs) book = bookIn xs (sets book (placeOf (x .day) (x .hour)) (x .values))

@@ -1,0 +1,6 @@
+pub mod Numbers
+pub mod Lines
+pub mod Form
+pub mod Places
+pub mod Said
+pub mod Document

@@ -1,0 +1,24 @@
+-- A number as the bytes of its decimal digits.
+-- "Numbers are decimal without sign, blanks or leading zeros".
+-- Assumes nothing.
+use Prim.Native.Nat.{ℕ, zero, suc, _+_, _/_, _%_}
+use mathlib.Core.Bool.{cond}
+use mathlib.Core.List.{List, [], _∷_, _++_}
+use lib.Dec.{ltb}
+
+-- the byte of a digit
+abbrev pub digitByte : ℕ → ℕ
+digitByte d = 48 + d
+
+-- the digits of n, which has at most `most` of them
+unfoldable pub digitsIn : ℕ → ℕ → List ℕ
+digitsIn zero n = []
+digitsIn (suc most) n = cond (ltb n 10) (digitByte n ∷ []) (digitsIn most (n / 10) ++ (digitByte (n % 10) ∷ []))
+
+-- the decimal digits of n, the most significant first; n has no more than n + 1 of them
+unfoldable pub decimal : ℕ → List ℕ
+decimal n = digitsIn (suc n) n
+
+-- a number and the byte that ends it
+unfoldable pub field : ℕ → ℕ → List ℕ
+field n end = decimal n ++ (end ∷ [])

@@ -1,0 +1,4 @@
+pub mod PutLaws
+pub mod RoomLaws
+pub mod Sample
+pub mod Shows

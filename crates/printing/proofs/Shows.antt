@@ -1,0 +1,98 @@
+-- What is printed shows its numbers: the front of the output is the statement or the line, the numbers that stand in it are those that were to
+-- be printed, and so equal statements come from equal numbers.
+-- Assumes nothing.
+use Prim.Native.Nat.{ℕ, zero, suc, _*_, _<_}
+use mathlib.Core.Bool.{Bool, true, false}
+use mathlib.Core.List.{List, [], _∷_, _++_}
+use mathlib.Core.Logic.{⊎-elim}
+use mathlib.Core.Path.{_≡_, refl, sym, ap, _∙_}
+use native.Mathlib.Nat.{eq-or-lt-of-le, le-of-suc-le-suc}
+use native.Mathlib.Omega.{arith}
+use lib.ListN.{length, take, drop, length-append}
+use lib.Seq.{take-at, drop-at}
+use Rattle.numerals.specs.Numbers.{isDigit, endsNumber, numbersIn, numbersOfLines, plainKey, plainKeys}
+use Rattle.numerals.proofs.ReadBack.{read-back, plain-append, numbers-append}
+use Rattle.schedule.specs.Notices.{countOf}
+use Rattle.printing.specs.Room.{printed, printedCount}
+use Rattle.printing.specs.Sheet.{refusedLines, refusedBytes, noticeLine, noticeLines, statementLines, statementBytes}
+
+-- so many bytes as are answered, from the front of the output, are what was to be printed
+pub shown : (bytes out : List ℕ) {cannot : Bool} → cannot ≡ false → take (printedCount cannot bytes) (printed cannot bytes out) ≡ bytes
+unfolding printed printedCount
+shown bytes out e = rw e (take-at bytes (drop (length bytes) out) (length bytes) refl)
+
+-- a refused text
+pub refused-numbers : (number place : ℕ) → numbersIn (refusedBytes number place) ≡ number ∷ place ∷ []
+unfolding refusedLines plainKeys plainKey isDigit endsNumber numbersOfLines
+refused-numbers number place = read-back (refusedLines number place) refl
+
+pub refused-same : (n m p q : ℕ) → refusedBytes n p ≡ refusedBytes m q → (n ≡ m) × (p ≡ q)
+refused-same n m p q e =
+    let s : _≡_ {A = List ℕ} (n ∷ p ∷ []) (m ∷ q ∷ []) = sym (refused-numbers n p) ∙ ap numbersIn e ∙ refused-numbers m q in
+    (cc, cc)
+
+-- the numbers of a statement: winter, price and number of notices, seven numbers a notice, total energy and total cents
+abbrev pub shownNumbers : ℕ → ℕ → List ℕ → List ℕ → ℕ → ℕ → List ℕ
+shownNumbers w p l out energy cents = w ∷ p ∷ countOf l ∷ (numbersOfLines (noticeLines l out (countOf l)) ++ (energy ∷ cents ∷ []))
+
+module _ (l out : List ℕ) where
+  lines-plain : (k : ℕ) → plainKeys (noticeLines l out k) ≡ true
+  unfolding noticeLines noticeLine plainKeys plainKey isDigit endsNumber
+  lines-plain zero = refl
+  lines-plain (suc k) = plain-append (noticeLines l out k) (noticeLine l out k ∷ []) (lines-plain k) refl
+
+  -- one notice more has its seven numbers behind those before
+  seven-more : (k : ℕ) → numbersOfLines (noticeLines l out (suc k)) ≡ numbersOfLines (noticeLines l out k) ++ noticeLine l out k .numbers
+  unfolding noticeLines noticeLine numbersOfLines
+  seven-more k = numbers-append (noticeLines l out k) (noticeLine l out k ∷ [])
+
+  sevens-long : (k : ℕ) → length (numbersOfLines (noticeLines l out k)) ≡ 7 * k
+  unfolding noticeLines noticeLine numbersOfLines
+  sevens-long zero = refl
+  sevens-long (suc k) = rw (seven-more k) (simp length-append (omega (arith, sevens-long k)))
+
+module _ (w p : ℕ) (l out : List ℕ) (energy cents : ℕ) where
+  statement-plain : plainKeys (statementLines w p l out energy cents) ≡ true
+  unfolding statementLines plainKeys plainKey isDigit endsNumber
+  statement-plain = plain-append (noticeLines l out (countOf l)) _ (lines-plain l out (countOf l)) refl
+
+  pub statement-numbers : numbersIn (statementBytes w p l out energy cents) ≡ shownNumbers w p l out energy cents
+  unfolding statementLines numbersOfLines
+  statement-numbers =
+      read-back (statementLines w p l out energy cents) statement-plain
+      ∙ ap (λ (ns : List ℕ). w ∷ p ∷ countOf l ∷ ns) (numbers-append (noticeLines l out (countOf l)) _)
+
+-- two lists of two parts, the first parts of one length
+parts : (xs ys us vs : List ℕ) → length xs ≡ length us → xs ++ ys ≡ us ++ vs → (xs ≡ us) × (ys ≡ vs)
+parts xs ys us vs n e = (
+  sym (take-at xs ys (length xs) refl) ∙ ap (take (length xs)) e ∙ take-at us vs (length xs) (sym n),
+  sym (drop-at xs ys (length xs) refl) ∙ ap (drop (length xs)) e ∙ drop-at us vs (length xs) (sym n),
+)
+
+module _ (l l′ out out′ : List ℕ) where
+  -- equal numbers of n notices are equal notice by notice
+  sevens-same : (n k : ℕ) → k < n → numbersOfLines (noticeLines l out n) ≡ numbersOfLines (noticeLines l′ out′ n)
+      → noticeLine l out k .numbers ≡ noticeLine l′ out′ k .numbers
+  sevens-same zero k h e = absurd (omega arith)
+  sevens-same (suc n) k h e =
+      let s = parts _ _ _ _ (sevens-long l out n ∙ sym (sevens-long l′ out′ n)) (sym (seven-more l out n) ∙ e ∙ seven-more l′ out′ n) in
+      ⊎-elim (λ (q : k ≡ n). rw q (s .1)) (λ (q : k < n). sevens-same n k q (s .0)) (eq-or-lt-of-le (le-of-suc-le-suc h))
+
+  -- equal statements: winter, price and totals are equal, and there are as many notices, with the same seven numbers each
+  pub statement-same : (w w′ p p′ energy energy′ cents cents′ : ℕ) → statementBytes w p l out energy cents ≡ statementBytes w′ p′ l′ out′ energy′ cents′
+      → (w ≡ w′)
+      × (p ≡ p′)
+      × (countOf l ≡ countOf l′)
+      × ((k : ℕ) → k < countOf l → noticeLine l out k .numbers ≡ noticeLine l′ out′ k .numbers)
+      × (energy ≡ energy′)
+      × (cents ≡ cents′)
+  statement-same w w′ p p′ energy energy′ cents cents′ e =
+      let s : shownNumbers w p l out energy cents ≡ shownNumbers w′ p′ l′ out′ energy′ cents′
+      = sym (statement-numbers w p l out energy cents) ∙ ap numbersIn e ∙ statement-numbers w′ p′ l′ out′ energy′ cents′ in
+      let xs = numbersOfLines (noticeLines l out (countOf l)) in
+      let ys = numbersOfLines (noticeLines l′ out′ (countOf l′)) in
+      let n : countOf l ≡ countOf l′ = cc in
+      let long : length xs ≡ length ys = sevens-long l out (countOf l) ∙ ap (λ (k : ℕ). 7 * k) n ∙ sym (sevens-long l′ out′ (countOf l′)) in
+      let q = parts xs (energy ∷ cents ∷ []) ys (energy′ ∷ cents′ ∷ []) long (cc) in
+      let t = q .1 in
+      (cc, cc, n, λ k h. sevens-same (countOf l) k h (q .0 ∙ ap (λ (m : ℕ). numbersOfLines (noticeLines l′ out′ m)) (sym n)), cc, cc)

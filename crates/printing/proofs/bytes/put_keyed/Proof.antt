@@ -1,0 +1,25 @@
+-- `put_keyed` puts the key, and behind it the number that ends the line.
+-- Assumes nothing.
+use native.Mathlib.Omega.{arith}
+use borrow.Author.Needs.{needs}
+use Rattle.numerals.specs.Lines.{row, lineBytes}
+use Rattle.printing.proofs.PutLaws.{put-then}
+use Rattle.printing.proofs.bytes.put_keyed.Statement.{statement}
+use Rattle.printing.proofs.bytes.put_keyed.Tie as tie
+
+put-key-requires : tie.Need-put-key-requires
+put-key-requires c κs = search needs
+
+put-field-requires : tie.Need-put-field-requires
+put-field-requires c κs = search needs
+
+same-length : tie.Need-same-length
+same-length c = search needs
+
+returns : tie.Need-returns
+unfolding lineBytes row
+returns c =
+    (put-then (c .before .before .before .before .before .before .put-key .ensures) (c .before .before .put-field .ensures .0), omega arith)
+
+pub put-keyed-spec : {M : Type 1} → statement M
+put-keyed-spec = tie.close (tie.spec put-key-requires put-field-requires same-length returns)

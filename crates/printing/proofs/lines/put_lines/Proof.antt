@@ -1,0 +1,95 @@
+-- `put_lines` puts one line a turn. Invariant: the lines of the first k notices are put, each in 152 bytes at most.
+-- Assumes nothing.
+use Prim.Native.Nat.{ℕ, _+_, _*_, _-_, _≤_}
+use mathlib.Core.List.{List, [], _∷_}
+use mathlib.Core.Path.{_≡_, refl, _∙_}
+use native.Mathlib.Numerals.{add-one}
+use native.Mathlib.Omega.{arith}
+use lib.ListN.{length}
+use borrow.Author.Needs.{needs}
+use Rattle.numerals.specs.Lines.{lineBytes, bytesOfLines}
+use Rattle.schedule.specs.Notices.{noticeAt}
+use Rattle.schedule.specs.declared.notices.Notice.{Notice}
+use Rattle.printing.specs.Put.{Put}
+use Rattle.printing.specs.Settled.{settledIn, lineOf}
+use Rattle.printing.specs.Sheet.{noticeLine, noticeLines}
+use Rattle.printing.specs.declared.lines.Settled.{Settled}
+use Rattle.printing.proofs.PutLaws.{put-length, put-last, put-both}
+use Rattle.printing.proofs.lines.put_lines.Statement.{statement}
+use Rattle.printing.proofs.lines.put_lines.Tie as tie
+
+-- no line yet
+lines-none : (l out before : List ℕ) (at : ℕ) → Put before at (bytesOfLines (noticeLines l out 0)) at before
+unfolding noticeLines bytesOfLines
+lines-none l out before at = record { ends = omega arith; holds = refl }
+
+-- a turn: one line more
+lines-next : (l out : List ℕ) (k : ℕ) {before now after : List ℕ} {i p q : ℕ} {n : Notice} {s : Settled} → n ≡ noticeAt l k → s ≡ settledIn out k
+    → Put before i (bytesOfLines (noticeLines l out k)) p now → Put now p (lineBytes (lineOf n s)) q after
+    → Put before i (bytesOfLines (noticeLines l out (k + 1))) q after
+unfolding noticeLines noticeLine
+lines-next l out k e f a b =
+    rw (add-one k) (put-both (noticeLines l out k) (noticeLine l out k ∷ []) a (put-last _ (rw (e, f) at b)))
+
+abbrev Inv-loop : tie.InvT-loop
+Inv-loop out₀ at list lines n next₀ k₀ out next k =
+    (k ≤ n) × (next ≤ at + 152 * k) × (length out ≡ length out₀) × Put out₀ at (bytesOfLines (noticeLines list lines k)) next out
+
+abbrev μ-loop : tie.MeasureT-loop
+μ-loop out₀ at list lines n next₀ k₀ out next k = n - k
+
+loop-holds : tie.Need-loop-holds Inv-loop μ-loop
+loop-holds c = (omega arith, omega arith, refl, lines-none _ _ _ _)
+
+notice-at-requires : tie.Need-notice-at-requires Inv-loop μ-loop
+notice-at-requires c κs = search needs
+
+settled-at-requires : tie.Need-settled-at-requires Inv-loop μ-loop
+settled-at-requires c κs = search needs
+
+put-line-requires : tie.Need-put-line-requires Inv-loop μ-loop
+put-line-requires c κs = search needs
+
+add-k : tie.Need-add-k Inv-loop μ-loop
+add-k c = search needs
+
+loop-less : tie.Need-loop-less Inv-loop μ-loop
+loop-less c = search needs
+
+loop-again : tie.Need-loop-again Inv-loop μ-loop
+loop-again c =
+    let p = c .before .before in
+    let s = p .before .before in
+    let f = s .before in
+    let l = f .before .before .loop in
+    let e = p .put-line .ensures in (
+      omega arith,
+      omega arith,
+      put-length (e .0) ∙ l .inv .2,
+      lines-next _ _ (l .k) (f .notice-at .ensures) (s .settled-at .ensures) (l .inv .3) (e .0),
+    )
+
+same-length : tie.Need-same-length Inv-loop μ-loop
+same-length c = search needs
+
+returns : tie.Need-returns Inv-loop μ-loop
+returns c =
+    let l = c .before .loop in
+    let e : l .k ≡ c .before .before .before .before .before .args .n = omega arith in
+    (rw (← e) (l .inv .3), omega arith)
+
+pub put-lines-spec : {M : Type 1} → statement M
+put-lines-spec =
+    tie.close
+    (tie.spec
+    Inv-loop
+    μ-loop
+    loop-holds
+    notice-at-requires
+    settled-at-requires
+    put-line-requires
+    add-k
+    loop-less
+    loop-again
+    same-length
+    returns)

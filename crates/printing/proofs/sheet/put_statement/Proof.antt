@@ -1,0 +1,33 @@
+-- `put_statement` puts the head, the line of each notice and the totals one after the other.
+-- Assumes nothing.
+use native.Mathlib.Omega.{arith}
+use borrow.Author.Needs.{needs}
+use Rattle.printing.specs.Sheet.{statementLines}
+use Rattle.printing.proofs.PutLaws.{put-both}
+use Rattle.printing.proofs.sheet.put_statement.Statement.{statement}
+use Rattle.printing.proofs.sheet.put_statement.Tie as tie
+
+put-head-requires : tie.Need-put-head-requires
+put-head-requires c κs = search needs
+
+put-lines-requires : tie.Need-put-lines-requires
+put-lines-requires c κs = search needs
+
+put-totals-requires : tie.Need-put-totals-requires
+put-totals-requires c κs = search needs
+
+same-length : tie.Need-same-length
+same-length c = search needs
+
+returns : tie.Need-returns
+unfolding statementLines
+returns c =
+    let t = c .before .before in
+    let s = t .before .before .before .before in
+    let f = s .before .before .before .before in
+    (put-both _ _ (f .put-head .ensures .0) (put-both _ _ (s .put-lines .ensures .0) (t .put-totals .ensures .0)), omega arith)
+
+pub put-statement-spec : {M : Type 1} → statement M
+put-statement-spec =
+    tie.close
+    (tie.spec put-head-requires put-lines-requires put-totals-requires same-length returns)

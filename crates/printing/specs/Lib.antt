@@ -1,0 +1,4 @@
+pub mod Put
+pub mod Room
+pub mod Settled
+pub mod Sheet

@@ -1,0 +1,35 @@
+-- What is printed: the statement of a settlement, or the line of a refused text.
+-- Assumes nothing.
+use Prim.Native.Nat.{ℕ, zero, suc}
+use mathlib.Core.List.{List, [], _∷_, _++_}
+use Rattle.numerals.specs.Lines.{Line, line, bytesOfLines}
+use Rattle.schedule.specs.Notices.{countOf, noticeAt}
+use Rattle.printing.specs.Settled.{settledIn, lineOf}
+
+-- "A refused text prints only the line `refused=number,place`, ended the same way."
+unfoldable pub refusedLines : ℕ → ℕ → List Line
+refusedLines number place = line "refused=" (number ∷ place ∷ []) ∷ []
+
+-- the line of the notice at index k, from the list and the settlement's output
+unfoldable pub noticeLine : List ℕ → List ℕ → ℕ → Line
+noticeLine l out k = lineOf (noticeAt l k) (settledIn out k)
+
+-- "one `line=` for each notice", of the first k
+unfoldable pub noticeLines : List ℕ → List ℕ → ℕ → List Line
+noticeLines l out zero = []
+noticeLines l out (suc k) = noticeLines l out k ++ (noticeLine l out k ∷ [])
+
+-- "winter, price and number of notices as read, one `line=` for each notice, then total energy and total cents."
+unfoldable pub statementLines : ℕ → ℕ → List ℕ → List ℕ → ℕ → ℕ → List Line
+statementLines winter price l out energy cents =
+    line "winter=" (winter ∷ [])
+    ∷ line "price=" (price ∷ [])
+    ∷ line "events=" (countOf l ∷ [])
+    ∷ (noticeLines l out (countOf l) ++ (line "energy=" (energy ∷ []) ∷ line "total=" (cents ∷ []) ∷ []))
+
+-- as bytes
+abbrev pub refusedBytes : ℕ → ℕ → List ℕ
+refusedBytes number place = bytesOfLines (refusedLines number place)
+
+abbrev pub statementBytes : ℕ → ℕ → List ℕ → List ℕ → ℕ → ℕ → List ℕ
+statementBytes winter price l out energy cents = bytesOfLines (statementLines winter price l out energy cents)
