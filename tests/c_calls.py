@@ -8,14 +8,13 @@ import struct
 from functools import cache
 from typing import NamedTuple
 
+from c_programs import build_delivered
 from harness import ROOT, Failure, run_script
 from second import settlements
 from second.settlements import LINE_NUMBERS, OUTPUT_BYTES, Line
 
-ARCHIVE = ROOT / "target" / "staticlib" / "libhost.a"
 DRIVER = ROOT / "target" / "tests" / "driver"
-SOURCE = ROOT / "tests" / "driver" / "driver.c"
-FLAGS = ("-std=c99", "-Wall", "-Wextra", "-pedantic", "-Werror", "-O2", "-static")
+SOURCES = [ROOT / "tests" / "driver" / name for name in ("driver.c", "parts.c")]
 
 CHECK, SETTLE = 1, 2
 SAME_BOOK = 2**32 - 1
@@ -131,11 +130,8 @@ def output_before(fill, length):
 def build_driver():
     """Compiles the driver against the library's archive."""
     DRIVER.unlink(missing_ok=True)
-    if not ARCHIVE.exists():
-        raise Failure(f"there is no {ARCHIVE.relative_to(ROOT)} to call")
     DRIVER.parent.mkdir(parents=True, exist_ok=True)
-    include = f"-I{ROOT / 'include'}"
-    run_script("the C compiler", "x86-64-cc", [*FLAGS, include, "-o", DRIVER, SOURCE, ARCHIVE], b"")
+    build_delivered("c99", SOURCES, DRIVER)
 
 
 def written(queries):

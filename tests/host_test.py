@@ -9,7 +9,6 @@ The last line printed is "N passed, M failed".
 import os
 import re
 import shutil
-import subprocess
 import sys
 import tempfile
 from functools import partial
@@ -17,57 +16,18 @@ from itertools import zip_longest
 from pathlib import Path
 from string import Template
 
+from c_programs import (
+    ARCHIVE, CROSS_COMPILER, CROSS_RUN, HEADER, STRICT, build_delivered, build_sanitized,
+    complaint, ended, need_archive, run,
+)
 from harness import ROOT, Failure, run_tests
 
-HEADER = ROOT / "include" / "ibisladder.h"
 EXAMPLE = ROOT / "examples" / "host.c"
 EXPECTED = ROOT / "examples" / "host.expected"
-ARCHIVE = ROOT / "target" / "staticlib" / "libhost.a"
-CROSS_COMPILER = ROOT / "scripts" / "x86-64-cc"
-CROSS_RUN = ROOT / "scripts" / "x86-64-run"
-NATIVE_LIBRARY = ROOT / "scripts" / "native-library"
-
-STRICT = ("-Wall", "-Wextra", "-pedantic", "-Werror")
-SANITIZED = ("-fsanitize=address,undefined", "-fno-sanitize-recover=all", "-g")
-
-# Installing may prove the host's crate once more.
-SECONDS_ALLOWED = 300
 
 # What the two calls are to need of a C library: what a C compiler asks of any.
 ALLOWED_NEEDS = {"memcpy", "memset", "memmove"}
 CALLS = {"ibisladder_check", "ibisladder_settle"}
-
-
-def ended(*command, **others):
-    """A command's exit status and what it wrote, once it has ended."""
-    name = Path(command[0]).name
-    try:
-        return subprocess.run(
-            command, capture_output=True, timeout=SECONDS_ALLOWED, cwd=ROOT, **others
-        )
-    except OSError as error:
-        raise Failure(f"cannot run {name}: {error.strerror}") from None
-    except subprocess.TimeoutExpired:
-        raise Failure(f"{name} ran longer than {SECONDS_ALLOWED} seconds") from None
-
-
-def complaint(run_of_it):
-    """The exit status and what was said about it."""
-    said = (run_of_it.stderr or run_of_it.stdout).decode(errors="backslashreplace").strip()
-    return f"exit status {run_of_it.returncode}: {said}"
-
-
-def run(*command, **others):
-    """What a command prints; it must end with exit status 0."""
-    run_of_it = ended(*command, **others)
-    if run_of_it.returncode != 0:
-        raise Failure(f"{Path(command[0]).name} ended with {complaint(run_of_it)}")
-    return run_of_it.stdout
-
-
-def need_archive():
-    if not ARCHIVE.is_file():
-        raise Failure(f"there is no {ARCHIVE.relative_to(ROOT)}: rt staticlib host writes it")
 
 
 def check_header(compiler, language, standard):
@@ -92,22 +52,15 @@ def check_example(*command):
 
 def check_delivered(folder):
     """The example with the delivered archive, as an x86-64 program."""
-    need_archive()
     program = folder / "host"
-    words = ("-std=c99", *STRICT, "-O2", "-static", f"-I{HEADER.parent}")
-    run(CROSS_COMPILER, *words, EXAMPLE, ARCHIVE, "-o", program)
+    build_delivered("c99", [EXAMPLE], program)
     check_example(CROSS_RUN, program)
 
 
 def check_sanitized(folder):
-    """The example under sanitizers, with the library compiled for this processor: in an
-    emulator sanitizers do not run."""
-    need_archive()
-    library = folder / "libsanitized.a"
-    run(NATIVE_LIBRARY, "--sanitized", library)
+    """The example under sanitizers."""
     program = folder / "host-sanitized"
-    words = ("-std=c99", *STRICT, *SANITIZED, f"-I{HEADER.parent}")
-    run("cc", *words, EXAMPLE, library, "-o", program)
+    build_sanitized("c99", [EXAMPLE], program)
     check_example(program)
 
 

@@ -7,24 +7,15 @@
  * answer is two numbers of 32 bits, the library's answer and the marks below, then the output's
  * bytes after the call.
  *
- * Each lent part lies between two pages that may not be touched, all other bytes there being a
- * pattern. The last byte of a part is just before the page behind, or its first byte just behind
- * the page before, up to 15 bytes off: so a part may begin at any address, and a read or write
- * outside is seen as a fault or as a broken pattern. */
+ * Where the lent parts lie is said in parts.h, and how far from a guard page by the placing. */
 
-#define _DEFAULT_SOURCE /* mmap's MAP_ANONYMOUS, sigsetjmp */
-
-#include <setjmp.h>
-#include <signal.h>
 #include <stdint.h>
 #include <stdio.h>
-#include <stdlib.h>
-#include <string.h>
-#include <sys/mman.h>
 
 #include "ibisladder.h"
+#include "parts.h"
 
-enum { PAGE = 4096, ROOM = 5 * PAGE };
+enum { ROOM = 5 * 4096 };
 
 enum { CHECK = 1, SETTLE = 2 };
 
@@ -40,96 +31,20 @@ struct query {
     uint32_t call, winter, number, placing, fill, list_length, out_length, book_length;
 };
 
-/* A lent part: the bytes between its guard pages, and these bytes as they were before the call. */
-struct part {
-    uint8_t *room;
-    uint8_t before[ROOM];
-    uint8_t *first;
-    size_t length;
-};
-
 static struct part book, list, out;
-static uint8_t pattern[ROOM];
-static sigjmp_buf before_call;
-
-static void give_up(const char *reason)
-{
-    fprintf(stderr, "driver: %s\n", reason);
-    exit(2);
-}
-
-static void on_fault(int signal_number)
-{
-    siglongjmp(before_call, signal_number);
-}
-
-static void catch_faults(void)
-{
-    struct sigaction action;
-    memset(&action, 0, sizeof action);
-    action.sa_handler = on_fault;
-    if (sigaction(SIGSEGV, &action, NULL) != 0 || sigaction(SIGBUS, &action, NULL) != 0)
-        give_up("cannot catch faults");
-}
-
-/* A guard page must stop a read, or no fault would ever be seen. */
-static void try_guard(const uint8_t *byte)
-{
-    if (sigsetjmp(before_call, 1) == 0) {
-        (void)*(const volatile uint8_t *)byte;
-        give_up("a guard page can be read");
-    }
-}
-
-static void set_up(struct part *part)
-{
-    uint8_t *guard = mmap(NULL, ROOM + 2 * PAGE, PROT_NONE, MAP_PRIVATE | MAP_ANONYMOUS, -1, 0);
-    if (guard == MAP_FAILED || mprotect(guard + PAGE, ROOM, PROT_READ | PROT_WRITE) != 0)
-        give_up("cannot get memory");
-    part->room = guard + PAGE;
-    try_guard(part->room - 1);
-    try_guard(part->room + ROOM);
-}
 
 static void set_up_all(void)
 {
-    for (size_t i = 0; i < ROOM; i++)
-        pattern[i] = (uint8_t)(37 * i + i / 256 + 0xA5);
     catch_faults();
-    set_up(&book);
-    set_up(&list);
-    set_up(&out);
+    set_up_part(&book, ROOM);
+    set_up_part(&list, ROOM);
+    set_up_part(&out, ROOM);
 }
 
-/* Gives a part its place; all its room becomes the pattern. */
 static void place(struct part *part, uint32_t placing, size_t length)
 {
-    size_t distance = (placing & DISTANCE) >> 1;
-    if (length + distance > ROOM)
-        give_up("a part is too long");
-    size_t start = placing & AT_GUARD_BEFORE ? distance : ROOM - distance - length;
-    memcpy(part->room, pattern, ROOM);
-    part->first = part->room + start;
-    part->length = length;
-}
-
-/* Remembers how a part's room is before the call. */
-static void remember(struct part *part)
-{
-    memcpy(part->before, part->room, ROOM);
-}
-
-static int changed(const struct part *part)
-{
-    return memcmp(part->room, part->before, ROOM) != 0;
-}
-
-static int changed_around(const struct part *part)
-{
-    size_t start = (size_t)(part->first - part->room);
-    size_t end = start + part->length;
-    return memcmp(part->room, part->before, start) != 0
-        || memcmp(part->room + end, part->before + end, ROOM - end) != 0;
+    enum side side = placing & AT_GUARD_BEFORE ? AT_START : AT_END;
+    place_part(part, side, (placing & DISTANCE) >> 1, length);
 }
 
 static void read_part(struct part *part, uint32_t placing, size_t length)
@@ -137,7 +52,7 @@ static void read_part(struct part *part, uint32_t placing, size_t length)
     place(part, placing, length);
     if (fread(part->first, 1, length, stdin) != length)
         give_up("a query is cut short");
-    remember(part);
+    remember_part(part);
 }
 
 /* The output before the call: byte i is fill plus 37 times i. Over queries of other fills no
@@ -147,7 +62,7 @@ static void fill_output(uint32_t placing, uint32_t fill, size_t length)
     place(&out, placing, length);
     for (size_t i = 0; i < length; i++)
         out.first[i] = (uint8_t)(fill + 37 * i);
-    remember(&out);
+    remember_part(&out);
 }
 
 static uint32_t number_at(const uint8_t *bytes)
@@ -174,41 +89,45 @@ static int read_query(struct query *query)
     return 1;
 }
 
-/* A book that a wrong call has changed is put back for the queries that lend it again. */
 static void read_parts(const struct query *query)
 {
     read_part(&list, query->placing, query->list_length);
     if (query->book_length != SAME_BOOK)
         read_part(&book, query->placing, query->book_length);
-    else
-        memcpy(book.room, book.before, ROOM);
     fill_output(query->placing, query->fill, query->out_length);
 }
 
-static uint32_t call(const struct query *query)
-{
-    if (query->call == CHECK)
-        return ibisladder_check(query->winter, query->number, list.first, list.length);
-    if (query->call != SETTLE)
-        give_up("there is no such call");
-    return ibisladder_settle(query->winter, book.first, book.length, query->number, list.first,
-                             list.length, out.first, out.length);
-}
+struct made {
+    const struct query *query;
+    uint32_t answer;
+};
 
-static uint32_t caught_call(const struct query *query, uint32_t *marks)
+static void call(void *given)
 {
-    if (sigsetjmp(before_call, 1) != 0) {
-        *marks = FAULT;
-        return 0;
-    }
-    *marks = 0;
-    return call(query);
+    struct made *made = given;
+    const struct query *query = made->query;
+    if (query->call == CHECK)
+        made->answer = ibisladder_check(query->winter, query->number, list.first, list.length);
+    else if (query->call == SETTLE)
+        made->answer = ibisladder_settle(query->winter, book.first, book.length, query->number,
+                                         list.first, list.length, out.first, out.length);
+    else
+        give_up("there is no such call");
 }
 
 static uint32_t found_changes(void)
 {
-    return (uint32_t)((changed(&book) ? BOOK_CHANGED : 0) | (changed(&list) ? LIST_CHANGED : 0)
-                      | (changed_around(&out) ? AROUND_OUTPUT_CHANGED : 0));
+    return (uint32_t)((part_changed(&book) ? BOOK_CHANGED : 0)
+                      | (part_changed(&list) ? LIST_CHANGED : 0)
+                      | (part_changed_beside(&out, out.length) ? AROUND_OUTPUT_CHANGED : 0));
+}
+
+/* What a wrong call has changed is not to be seen again in the next one. */
+static void put_back_all(void)
+{
+    put_back_part(&book);
+    put_back_part(&list);
+    put_back_part(&out);
 }
 
 static void write_number(uint32_t number)
@@ -219,12 +138,14 @@ static void write_number(uint32_t number)
 
 static void answer(const struct query *query)
 {
-    uint32_t marks;
-    uint32_t given = caught_call(query, &marks);
+    struct made made = {query, 0};
+    uint32_t marks = touches_outside(call, &made) ? FAULT : 0;
     marks |= found_changes();
-    write_number(given);
+    write_number(made.answer);
     write_number(marks);
     fwrite(out.first, 1, out.length, stdout);
+    if (marks != 0)
+        put_back_all();
 }
 
 int main(void)
