@@ -63,8 +63,10 @@ tooSmall out = ltb (length out) answerRoom
 abbrev pub startsWith : List ℕ → List ℕ → List ℕ
 startsWith bytes out = bytes ++ drop (length bytes) out
 
+-- how many bytes the call on a text answers
 unfoldable pub answered : List ℕ → List ℕ → ℕ
 answered s out = cond (tooSmall out) 0 (length (statementOf s))
 
+-- and what it leaves in the output
 unfoldable pub answeredIn : List ℕ → List ℕ → List ℕ
 answeredIn s out = cond (tooSmall out) out (startsWith (statementOf s) out)
