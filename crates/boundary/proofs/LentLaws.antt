@@ -17,11 +17,11 @@ use Rattle.schedule.proofs.Walk.{list-fits}
 use Rattle.schedule.specs.ListCheck.{badList, checkAnswer}
 use Rattle.wire.proofs.ReadLaws.{numbers-long, read-whole, read-long}
 use Rattle.wire.specs.Bytes.{numbersTo, numbersRead}
-use Rattle.boundary.specs.Lent.{numbersIn, decoded, listRoom}
+use Rattle.boundary.specs.Lent.{numberCount, decoded, listRoom}
 use Rattle.boundary.specs.Whole.{Lengths}
 
-pub decoded-long : (bytes : List ℕ) → length (decoded bytes) ≡ numbersIn (length bytes)
-unfolding decoded numbersIn
+pub decoded-long : (bytes : List ℕ) → length (decoded bytes) ≡ numberCount (length bytes)
+unfolding decoded numberCount
 decoded-long bytes = by (eqb (length bytes % 4) 0)
   where
     by : (b : Bool) → length (cond b (numbersTo bytes (length bytes / 4)) (0 ∷ [])) ≡ cond b (length bytes / 4) 1
@@ -33,35 +33,35 @@ unfolding decoded
 decoded-whole bytes e = rw (eq-eqb (length bytes % 4) 0 e)
 
 -- bytes that are not taken for one number are whole numbers
-pub whole-numbers : (n : ℕ) → (numbersIn n ≡ 1 → ⊥) → (n % 4 ≡ 0) × (numbersIn n ≡ n / 4)
-unfolding numbersIn
+pub whole-numbers : (n : ℕ) → (numberCount n ≡ 1 → ⊥) → (n % 4 ≡ 0) × (numberCount n ≡ n / 4)
+unfolding numberCount
 whole-numbers n f = by (eqb (n % 4) 0) refl f
   where
     by : (b : Bool) → eqb (n % 4) 0 ≡ b → (cond b (n / 4) 1 ≡ 1 → ⊥) → (n % 4 ≡ 0) × (cond b (n / 4) 1 ≡ n / 4)
     by true q f = (eqb-true (n % 4) 0 q, refl)
     by false q f = absurd (f refl)
 
-good-numbers : (n : ℕ) → badList (numbersIn n) ≡ false → (n % 4 ≡ 0) × (numbersIn n ≡ n / 4)
-good-numbers n e = whole-numbers n (λ (o : numbersIn n ≡ 1). true≢false (sym one-is-bad ∙ sym (ap badList o) ∙ e))
+good-numbers : (n : ℕ) → badList (numberCount n) ≡ false → (n % 4 ≡ 0) × (numberCount n ≡ n / 4)
+good-numbers n e = whole-numbers n (λ (o : numberCount n ≡ 1). true≢false (sym one-is-bad ∙ sym (ap badList o) ∙ e))
 
 -- the list check: what was read of a list, with as much room as is taken
 
-room-cases : (n : ℕ) (b : Bool) → badList (numbersIn n) ≡ b → listRoom n ≡ cond b 1 (numbersIn n)
+room-cases : (n : ℕ) (b : Bool) → badList (numberCount n) ≡ b → listRoom n ≡ cond b 1 (numberCount n)
 unfolding listRoom
 room-cases n b e = rw e
 
 pub room-few : (n : ℕ) → listRoom n ≤ 300
-room-few n = by (badList (numbersIn n)) refl
+room-few n = by (badList (numberCount n)) refl
   where
-    by : (b : Bool) → badList (numbersIn n) ≡ b → listRoom n ≤ 300
+    by : (b : Bool) → badList (numberCount n) ≡ b → listRoom n ≤ 300
     by true q = omega (arith, room-cases n true q)
-    by false q = let f = list-fits (numbersIn n) q in omega (arith, room-cases n false q)
+    by false q = let f = list-fits (numberCount n) q in omega (arith, room-cases n false q)
 
 pub read-checks : (w profile : ℕ) (list numbers : List ℕ) → length numbers ≡ listRoom (length list)
     → checkAnswer w profile (numbersRead list numbers) ≡ checkAnswer w profile (decoded list)
-read-checks w profile list numbers e = by (badList (numbersIn (length list))) refl
+read-checks w profile list numbers e = by (badList (numberCount (length list))) refl
   where
-    by : (b : Bool) → badList (numbersIn (length list)) ≡ b → checkAnswer w profile (numbersRead list numbers) ≡ checkAnswer w profile (decoded list)
+    by : (b : Bool) → badList (numberCount (length list)) ≡ b → checkAnswer w profile (numbersRead list numbers) ≡ checkAnswer w profile (decoded list)
     by true q =
         let one : length (numbersRead list numbers) ≡ 1 = read-long list numbers ∙ e ∙ room-cases (length list) true q in
         bad-lists-alike w profile (numbersRead list numbers) (decoded list) (ap badList one ∙ one-is-bad) (ap badList (decoded-long list) ∙ q)
@@ -76,12 +76,12 @@ pub record RightLengths (book list out : ℕ) : Type 0 where
   pub lines-fit : 4 * (list / 4 / 3) ≤ out / 8
   pub lengths : Lengths book list out
 
-pub right-lengths : (w p book list out : ℕ) → RightCall w (numbersIn book) p (numbersIn list) (out / 8) → RightLengths book list out
+pub right-lengths : (w p book list out : ℕ) → RightCall w (numberCount book) p (numberCount list) (out / 8) → RightLengths book list out
 right-lengths w p book list out s =
     let most : days w ≤ 152 = ⊎-elim (λ (e : days w ≡ 151). omega arith) (λ (e : days w ≡ 152). omega arith) (days-two w) in
     let some : 151 ≤ days w = ⊎-elim (λ (e : days w ≡ 151). omega arith) (λ (e : days w ≡ 152). omega arith) (days-two w) in
-    let b = whole-numbers book (λ (o : numbersIn book ≡ 1). let h = s .book in omega arith) in
-    let l = whole-numbers list (λ (o : numbersIn list ≡ 1). let h = s .whole in omega arith) in
+    let b = whole-numbers book (λ (o : numberCount book ≡ 1). let h = s .book in omega arith) in
+    let l = whole-numbers list (λ (o : numberCount list ≡ 1). let h = s .whole in omega arith) in
     let hours = s .book in
     let few = s .few in
     let whole = s .whole in

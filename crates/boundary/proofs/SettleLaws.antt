@@ -18,7 +18,7 @@ use Rattle.wire.proofs.ReadLaws.{numbers-long, read-whole}
 use Rattle.wire.proofs.WriteLaws.{written-whole}
 use Rattle.wire.specs.Bytes.{numbersRead, bytesWritten}
 use Rattle.boundary.specs.Calls.{packed, packedSettlement, linesOver, settledOver, settleCall, settleBytes}
-use Rattle.boundary.specs.Lent.{numbersIn, decoded}
+use Rattle.boundary.specs.Lent.{numberCount, decoded}
 use Rattle.boundary.specs.Whole.{wholeNumbers, wholeCall, wholeBytes}
 use Rattle.boundary.proofs.LentLaws.{RightLengths, decoded-long, decoded-whole, right-lengths}
 
@@ -32,7 +32,7 @@ unfolding wholeNumbers
 whole-long bytes = numbers-long bytes (length bytes / 4)
 
 -- the call's refusal: number 0, or refused by winter, price or lengths
-module _ (w p : ℕ) (book list out : List ℕ) (readings numbers number : ℕ) (b : readings ≡ numbersIn (length book)) (l : numbers ≡ numbersIn (length list))
+module _ (w p : ℕ) (book list out : List ℕ) (readings numbers number : ℕ) (b : readings ≡ numberCount (length book)) (l : numbers ≡ numberCount (length list))
     (e : refusalAt number 0 ≡ firstOf 0 (callRows w readings p numbers (length out / 8))) where
   refusal-is : (number ≡ 0 → ⊥) → refusedWith number 0 ≡ settlement w (decoded book) p (decoded list) (length out / 8)
   refusal-is f = call-refused w p (decoded book) (decoded list) (length out / 8) number (rw (decoded-long book, decoded-long list, ← b, ← l) e) f

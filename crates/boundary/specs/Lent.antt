@@ -9,12 +9,12 @@ use Rattle.schedule.specs.ListCheck.{badList}
 use Rattle.wire.specs.Bytes.{numbersTo}
 
 -- "bytes over from whole numbers are a wrong length": so many bytes are taken for one number, which no book and no list is
-unfoldable pub numbersIn : ℕ → ℕ
-numbersIn length = cond (eqb (length % 4) 0) (length / 4) 1
+unfoldable pub numberCount : ℕ → ℕ
+numberCount length = cond (eqb (length % 4) 0) (length / 4) 1
 
 unfoldable pub decoded : List ℕ → List ℕ
 decoded bytes = cond (eqb (length bytes % 4) 0) (numbersTo bytes (length bytes / 4)) (0 ∷ [])
 
 -- how many numbers of a list are read: all, or just one where there are too many or bytes over
 unfoldable pub listRoom : ℕ → ℕ
-listRoom length = cond (badList (numbersIn length)) 1 (numbersIn length)
+listRoom length = cond (badList (numberCount length)) 1 (numberCount length)

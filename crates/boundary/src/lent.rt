@@ -1,15 +1,15 @@
 // How many numbers lent bytes stand for.
 ghost use mathlib.Core.Path.{_≡_};
-ghost use Rattle.boundary.specs.Lent.{numbersIn, listRoom};
+ghost use Rattle.boundary.specs.Lent.{numberCount, listRoom};
 
 // How many numbers so many bytes are; one, which is a wrong length, where bytes are over.
 pub(crate) fn numbers_in(length: usize) -> usize
-    ensures { λ r. ⌜ r ≡ numbersIn length ⌝ }
+    ensures { λ r. ⌜ r ≡ numberCount length ⌝ }
 {
     if length % 4 == 0 { length / 4 } else { 1 }
 }
 
-// How many numbers of a list of so many bytes to read: none past the hundredth notice is needed to refuse it.
+// How many numbers of a list of so many bytes to read: one where its length is wrong already, which is enough to refuse it.
 pub(crate) fn list_room(length: usize) -> usize
     ensures { λ r. ⌜ r ≡ listRoom length ⌝ }
 {

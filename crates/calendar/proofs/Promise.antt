@@ -1,7 +1,7 @@
 -- The calendar's promise: what the crates above may count on, so that they open none of its definitions.
 -- Assumes nothing.
 use Prim.Native.Nat.{ℕ, _+_, _%_, _≤_, _<_}
-use mathlib.Core.Bool.{Bool, true, false, not, cond, _&&_, _||_, true≢false}
+use mathlib.Core.Bool.{Bool, true, false, not, cond, _&&_, _||_}
 use mathlib.Core.List.{[], _∷_, map}
 use mathlib.Core.Logic.{_⊎_, inl, inr, _↔_}
 use mathlib.Core.Path.{_≡_, refl, sym, ap, _∙_}
@@ -11,9 +11,10 @@ use lib.ListN.{getD}
 use borrow.Author.Tests.{ltb-false, le-ltb, leb-true, leb-false, ltb-true, le-leb, lt-leb, lt-ltb, ne-eqb}
 use Rattle.laws.proofs.Below.{below, howMany}
 use Rattle.laws.proofs.Guards.{both, neither}
-use Rattle.laws.specs.Answer.{Answer, given, refusal, refuse}
+use Rattle.laws.proofs.Refusals.{kept, either-way}
+use Rattle.laws.specs.Answer.{Answer, given, refusal}
 use Rattle.calendar.specs.Answers.{daysPaper, winterDays, dateOf}
-use Rattle.calendar.specs.Dates.{monthLengths, dateFrom}
+use Rattle.calendar.specs.Dates.{monthLengths, november, dateFrom}
 use Rattle.calendar.specs.Easter.{easterInBook}
 use Rattle.calendar.specs.Excluded.{fixedDays, among, goodFriday, easterMonday, excluded}
 use Rattle.calendar.specs.Weekdays.{firstWeekday, weekday, weekend}
@@ -41,28 +42,22 @@ days-two y = either (leap (y + 1)) 152 151
 
 -- what the two answers of `winter_days` tell
 pub no-winter : (y : ℕ) (r : Days) → r ≡ NoWinter → daysPaper r ≡ winterDays y → noWinter y ≡ true
-unfolding winterDays refuse
-no-winter y r q e = by (noWinter y) (ap (λ (r : Days). daysPaper r .number) (sym q) ∙ ap (λ (a : Answer). a .number) e)
-  where
-    by : (b : Bool) → 1 ≡ refuse b (refusal 1) (given (days y ∷ [])) .number → b ≡ true
-    by true e = refl
-    by false e = absurd (omega arith)
+unfolding winterDays
+no-winter y r q e =
+    either-way (λ (a : Answer). 1 ≡ a .number → noWinter y ≡ true) (noWinter y) (λ t one. t) (λ f one. absurd (omega arith))
+    (ap (λ (r : Days). daysPaper r .number) (sym q) ∙ ap (λ (a : Answer). a .number) e)
 
 pub is-winter : (y n : ℕ) (r : Days) → r ≡ Are n → daysPaper r ≡ winterDays y → noWinter y ≡ false
-unfolding winterDays refuse
-is-winter y n r q e = by (noWinter y) (ap (λ (r : Days). daysPaper r .number) (sym q) ∙ ap (λ (a : Answer). a .number) e)
-  where
-    by : (b : Bool) → 0 ≡ refuse b (refusal 1) (given (days y ∷ [])) .number → b ≡ false
-    by true e = absurd (omega arith)
-    by false e = refl
+unfolding winterDays
+is-winter y n r q e =
+    either-way (λ (a : Answer). 0 ≡ a .number → noWinter y ≡ false) (noWinter y) (λ t none. absurd (omega arith)) (λ f none. f)
+    (ap (λ (r : Days). daysPaper r .number) (sym q) ∙ ap (λ (a : Answer). a .number) e)
 
 pub winter-count : (y n : ℕ) (r : Days) → r ≡ Are n → daysPaper r ≡ winterDays y → n ≡ days y
-unfolding winterDays refuse
-winter-count y n r q e = by (noWinter y) (ap (λ (r : Days). getD (daysPaper r .values) 0 0) (sym q) ∙ ap (λ (a : Answer). getD (a .values) 0 0) e) (is-winter y n r q e)
-  where
-    by : (b : Bool) → n ≡ getD (refuse b (refusal 1) (given (days y ∷ [])) .values) 0 0 → b ≡ false → n ≡ days y
-    by true e w = absurd (true≢false w)
-    by false e w = e
+unfolding winterDays
+winter-count y n r q e =
+    ap (λ (r : Days). getD (daysPaper r .values) 0 0) (sym q)
+    ∙ ap (λ (a : Answer). getD (a .values) 0 0) (e ∙ sym (kept (refusal 1) (is-winter y n r q e) refl))
 
 pub book-day : (y d : ℕ) → noDay y d ≡ false → d < days y
 unfolding noDay
@@ -77,15 +72,20 @@ period-day y d = (
 
 -- dates: day 30 is 1 December, and the fixed days are 24, 25, 26, 31 December, 1 and 2 January
 
+-- the date of a day of a winter, refused or not
+pub date-walk : (y : ℕ) → noWinter y ≡ false → (d : ℕ) → dateOf y d ≡ dateFrom (monthLengths y) november d
+unfolding dateOf
+date-walk y w d = sym (kept (refusal 1) w refl)
+
 pub december-first : (y : ℕ) → noWinter y ≡ false → dateOf y 30 ≡ given (12 ∷ 1 ∷ [])
-unfolding dateOf refuse dateFrom monthLengths
-december-first y w = rw w
+unfolding dateFrom monthLengths
+december-first y w = rw (date-walk y w 30)
 
 pub fixed-dates : (y : ℕ) → noWinter y ≡ false
     → map (dateOf y) fixedDays
     ≡ given (12 ∷ 24 ∷ []) ∷ given (12 ∷ 25 ∷ []) ∷ given (12 ∷ 26 ∷ []) ∷ given (12 ∷ 31 ∷ []) ∷ given (1 ∷ 1 ∷ []) ∷ given (1 ∷ 2 ∷ []) ∷ []
-unfolding dateOf refuse dateFrom monthLengths
-fixed-dates y w = rw w
+unfolding dateFrom monthLengths
+fixed-dates y w = simp (date-walk y w)
 
 -- weekdays go round by seven
 

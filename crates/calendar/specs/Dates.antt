@@ -5,7 +5,7 @@ use Prim.Native.Nat.{ℕ, _+_, _-_, _%_}
 use mathlib.Core.Bool.{cond, _||_}
 use mathlib.Core.List.{List, [], _∷_}
 use lib.Dec.{ltb, eqb}
-use Rattle.laws.specs.Answer.{Answer, given, refusal, refuse}
+use Rattle.laws.specs.Answer.{Answer, given, refusal}
 use Rattle.calendar.specs.Winters.{leap}
 
 -- November, December, January, February of a common year, March
@@ -31,7 +31,7 @@ dateFrom (n ∷ lengths) month left =
 
 -- the book day of a day of the month that starts at book day `first` and has n days
 unfoldable pub dayInMonth : ℕ → ℕ → ℕ → Answer
-dayInMonth first n day = refuse (ltb day 1 || ltb n day) (refusal 10) (given ((first + day - 1) ∷ []))
+dayInMonth first n day = cond (ltb day 1 || ltb n day) (refusal 10) (given ((first + day - 1) ∷ []))
 
 -- the book day of a date, looked for in the months from `now` on, which starts at book day `first`
 unfoldable pub bookDayFrom : List ℕ → ℕ → ℕ → ℕ → ℕ → Answer

@@ -9,9 +9,9 @@ use native.Mathlib.Nat.{mul-le-mul-right, div-mul-le-self}
 use native.Mathlib.Omega.{arith}
 use lib.ListN.{length}
 use Rattle.laws.proofs.Every.{Every}
+use Rattle.laws.proofs.Order.{either-order}
 use Rattle.energy.specs.Spared.{sparedOf}
 use Rattle.energy.specs.Trimmed.{sumOf, smallestOf, largestOf, trimmedOf}
-use Rattle.energy.proofs.Signs.{either-order}
 use Rattle.energy.proofs.SparedLaws.{spared-below, spared-uncapped, spared-capped}
 
 smallest-bound : (m x : ℕ) (xs : List ℕ) → x ≤ m → smallestOf (x ∷ xs) ≤ m

@@ -2,34 +2,33 @@
 -- most 1,500,000,000 eighteenths of a Wh.
 -- Assumes nothing.
 use Prim.Native.Nat.{ℕ, zero, suc, _+_, _-_, _*_, _≤_, _<_}
-use mathlib.Core.Bool.{Bool, true, false, cond, true≢false}
+use mathlib.Core.Bool.{Bool, true, false, cond}
 use mathlib.Core.List.{List, [], _∷_, _++_, map}
-use mathlib.Core.Path.{_≡_, refl, sym, ap}
+use mathlib.Core.Path.{_≡_, refl, sym, ap, _∙_}
 use native.Mathlib.Nat.{mul-add}
 use native.Mathlib.Omega.{arith}
-use lib.Dec.{ltb, eqb}
+use lib.Dec.{ltb}
 use lib.ListN.{length, getD, length-map}
-use borrow.Author.Tests.{eqb-true, ltb-false, not-false}
+use borrow.Author.Tests.{eqb-true, not-false}
 use Rattle.calendar.proofs.BookLaws.{part-there, part-earlier, place-in}
 use Rattle.calendar.proofs.Promise.{period-day}
 use Rattle.calendar.specs.Book.{noPart}
 use Rattle.laws.proofs.Every.{Every, left, right, joined, imply, map-of}
 use Rattle.laws.proofs.Refusals.{passed}
-use Rattle.laws.specs.Answer.{Answer, given, refuse}
+use Rattle.laws.specs.Answer.{Answer, given}
 use Rattle.schedule.specs.declared.notices.Notice.{Notice}
 use Rattle.energy.specs.Asked.{Asked, askedBy, hoursFrom, warmUp, placesOf, placesOn, needed}
 use Rattle.energy.specs.Energy.{sumOver, drawnAt, trimmedAt, energyOf}
 use Rattle.energy.specs.HoursOf.{Spans}
-use Rattle.energy.specs.Line.{settled, unsettled, byFault, lineOf, eventAnswer}
-use Rattle.energy.specs.Readings.{readingAt, largestReading, faultOf, isClean, orFault, firstFault}
+use Rattle.energy.specs.Line.{settled, lineOf, eventAnswer}
+use Rattle.energy.specs.Readings.{largestReading}
 use Rattle.energy.specs.ReferenceDays.{referenceDays}
-use Rattle.energy.specs.declared.readings.Fault.the-variants.{Clean, Missing, TooLarge}
-use Rattle.energy.specs.declared.readings.Fault.{Fault}
 use Rattle.energy.proofs.CallLaws.{in-band}
 use Rattle.energy.proofs.EnergyBound.{trimmed-bound, spared-bound}
 use Rattle.energy.proofs.HourLaws.{hours-long}
 use Rattle.energy.proofs.Nearest.{refs-serve, refs-few}
 use Rattle.energy.proofs.Scaled.{at-hours}
+use Rattle.energy.proofs.Unsettled.{Right, settled-where, settled-only}
 
 -- places
 
@@ -57,39 +56,18 @@ places-in y len hours (d ∷ ds) h e =
 
 -- readings: those of a clean event are at most the largest
 
-both-clean : (f g : Fault) → isClean (orFault f g) ≡ true → (isClean f ≡ true) × (isClean g ≡ true)
-both-clean Clean g h = (refl, h)
-both-clean (Missing p) g h = absurd (true≢false (sym h))
-both-clean (TooLarge p) g h = absurd (true≢false (sym h))
-
-clean-value : (v p : ℕ) → isClean (faultOf v p) ≡ true → v ≤ largestReading
-unfolding faultOf
-clean-value v p h = ltb-false largestReading v (by (eqb v 4294967295) (ltb largestReading v) h)
-  where
-    by : (m l : Bool) → isClean (cond m (Missing p) (cond l (TooLarge p) Clean)) ≡ true → l ≡ false
-    by true l h = cc
-    by false true h = cc
-    by false false h = refl
-
-clean-values : (book places : List ℕ) → isClean (firstFault book places) ≡ true → Every (λ (p : ℕ). readingAt book p ≤ largestReading) places
-unfolding firstFault
-clean-values book [] h = tt
-clean-values book (p ∷ places) h =
-    let b = both-clean (faultOf (readingAt book p) p) (firstFault book places) h in
-    (clean-value (readingAt book p) p (b .0), clean-values book places (b .1))
-
 sum-most : (f : ℕ → ℕ) (m : ℕ) (hours : List ℕ) → Every (λ (h : ℕ). f h ≤ m) hours → sumOver f hours ≤ m * length hours
 unfolding sumOver
 sum-most f m [] a = omega arith
 sum-most f m (h ∷ hours) a = omega (arith, a .0, sum-most f m hours (a .1), mul-add m 1 (length hours))
 
-module _ (book : List ℕ) (q : Asked) (five : length (q .refs) ≡ 5) (clean : isClean (firstFault book (needed q)) ≡ true) where
+module _ (book : List ℕ) (q : Asked) (five : length (q .refs) ≡ 5) (all : Every (Right book) (needed q)) where
   abbrev HourMost : ℕ → Type 0
   HourMost h = Every (λ (d : ℕ). drawnAt book d h ≤ largestReading) (q .day ∷ q .refs)
 
   hours-most : Every HourMost (q .warm ++ q .event)
   unfolding needed
-  hours-most = at-hours (λ (p : ℕ). readingAt book p ≤ largestReading) (q .warm ++ q .event) (q .day ∷ q .refs) (clean-values book (needed q) clean)
+  hours-most = at-hours (Right book) (q .warm ++ q .event) (q .day ∷ q .refs) all
 
   drawn-most : Every (λ (h : ℕ). drawnAt book (q .day) h ≤ largestReading) (q .warm ++ q .event)
   drawn-most = imply HourMost _ (λ h x. x .0) (q .warm ++ q .event) hours-most
@@ -102,21 +80,12 @@ module _ (book : List ℕ) (q : Asked) (five : length (q .refs) ≡ 5) (clean : 
       (q .warm ++ q .event)
       hours-most
 
-  clean-most : length (q .event) ≤ 4 → energyOf book q ≤ 1500000000
+  readings-most : length (q .event) ≤ 4 → energyOf book q ≤ 1500000000
   unfolding energyOf
-  clean-most b =
+  readings-most b =
       spared-bound (length (q .event)) (length (q .warm)) _ _ _ _ b
       (sum-most (trimmedAt book (q .refs)) (3 * largestReading) (q .event) (right _ (q .warm) (q .event) trimmed-most))
       (sum-most (drawnAt book (q .day)) largestReading (q .warm) (left _ (q .warm) (q .event) drawn-most))
-
--- the line: a settled one has five reference days and no fault
-line-settled : (few : Bool) (f : Fault) (energy e : ℕ) → refuse few (unsettled 20 0) (byFault f energy) ≡ settled e
-    → (few ≡ false) × (isClean f ≡ true) × (energy ≡ e)
-unfolding refuse
-line-settled true f energy e q = absurd (omega (arith, ap (λ (a : Answer). getD (a .values) 0 0) q))
-line-settled false Clean energy e q = (refl, refl, ap (λ (a : Answer). getD (a .values) 2 0) q)
-line-settled false (Missing p) energy e q = absurd (omega (arith, ap (λ (a : Answer). getD (a .values) 0 0) q))
-line-settled false (TooLarge p) energy e q = absurd (omega (arith, ap (λ (a : Answer). getD (a .values) 0 0) q))
 
 module _ (y : ℕ) (book masks : List ℕ) (n : Notice) where
   -- a call that is not refused: the day is in the book, the hours lie in a band, and the line is the answer
@@ -140,13 +109,14 @@ module _ (y : ℕ) (book masks : List ℕ) (n : Notice) where
       (t .0, imply _ _ (λ d x. part-earlier y (length book) (n .day) d (t .0) (omega (arith, x .0))) (referenceDays y masks (n .day)) (refs-serve y masks (n .day)))
 
   pub energy-most : (e : ℕ) → eventAnswer y book masks n ≡ settled e → e ≤ 1500000000
-  unfolding lineOf askedBy
+  unfolding askedBy
   energy-most e q =
       let t = taken (0 ∷ 0 ∷ e ∷ []) q in
-      let l = line-settled (ltb (length (referenceDays y masks (n .day))) 5) (firstFault book (needed (askedBy y masks n))) (energyOf book (askedBy y masks n)) e (t .2) in
+      let l = settled-only book (askedBy y masks n) (ap (λ (a : Answer). getD (a .values) 0 0) (t .2)) in
+      let same = sym (settled-where book (askedBy y masks n) (l .0) (l .1)) ∙ t .2 in
       omega (
         arith,
-        l .2,
-        clean-most book (askedBy y masks n) (omega (arith, ltb-false (length (referenceDays y masks (n .day))) 5 (l .0), refs-few y masks (n .day))) (l .1)
+        ap (λ (a : Answer). getD (a .values) 2 0) same,
+        readings-most book (askedBy y masks n) (omega (arith, l .0, refs-few y masks (n .day))) (l .1)
             (omega (arith, hours-long (n .start) (n .end - n .start), t .1 .few)),
       )

@@ -2,7 +2,7 @@
 -- an event whose winter, book and notice stand is not refused: it is given code, place and energy.
 -- Assumes nothing.
 use Prim.Native.Nat.{ℕ, _*_, _≤_}
-use mathlib.Core.Bool.{Bool, true, false, not}
+use mathlib.Core.Bool.{Bool, false, not}
 use mathlib.Core.List.{List, [], _∷_}
 use mathlib.Core.Path.{_≡_, refl, sym, _∙_}
 use native.Mathlib.Omega.{arith}
@@ -11,7 +11,7 @@ use lib.ListN.{length, getD}
 use borrow.Author.Tests.{eq-eqb}
 use Rattle.calendar.proofs.Promise.{winter-range, period-day}
 use Rattle.calendar.specs.Winters.{days, inPeriod}
-use Rattle.laws.proofs.Refusals.{kept}
+use Rattle.laws.proofs.Refusals.{kept, either-way}
 use Rattle.laws.specs.Answer.{Answer, given, refuse}
 use Rattle.schedule.proofs.Lawful.{Sound, hours-iff}
 use Rattle.schedule.specs.Profiles.{figuresOf}
@@ -33,9 +33,7 @@ record Paper (a : Answer) : Type 0 where
   paper : linePaper line ≡ a
 
 refuse-paper : (b : Bool) (r : Line) (rest : Answer) → Paper rest → Paper (refuse b (linePaper r) rest)
-unfolding refuse
-refuse-paper true r rest p = record { line = r; paper = refl }
-refuse-paper false r rest p = p
+refuse-paper b r rest p = either-way Paper b (λ e. record { line = r; paper = refl }) (λ e. p)
 
 fault-paper : (f : Fault) (energy : ℕ) → Paper (byFault f energy)
 fault-paper Clean energy = record { line = LineCase.Settled energy; paper = refl }
@@ -71,11 +69,6 @@ answer-most y book masks n =
 abbrev pub threeOf : Answer → Answer
 threeOf a = given (getD (a .values) 0 0 ∷ getD (a .values) 1 0 ∷ getD (a .values) 2 0 ∷ [])
 
-refuse-three : (b : Bool) (a rest : Answer) → a ≡ threeOf a → rest ≡ threeOf rest → refuse b a rest ≡ threeOf (refuse b a rest)
-unfolding refuse
-refuse-three true a rest p q = p
-refuse-three false a rest p q = q
-
 fault-three : (f : Fault) (energy : ℕ) → byFault f energy ≡ threeOf (byFault f energy)
 fault-three Clean energy = refl
 fault-three (Missing place) energy = refl
@@ -83,7 +76,8 @@ fault-three (TooLarge place) energy = refl
 
 line-three : (book : List ℕ) (q : Asked) → lineOf book q ≡ threeOf (lineOf book q)
 unfolding lineOf
-line-three book q = refuse-three _ _ _ refl (fault-three (firstFault book (needed q)) (energyOf book q))
+line-three book q =
+    either-way (λ (a : Answer). a ≡ threeOf a) _ (λ few. refl) (λ enough. fault-three (firstFault book (needed q)) (energyOf book q))
 
 -- an event of a list that stands is given its line
 pub event-given : (y : ℕ) (book masks : List ℕ) (n : Notice) → (2010 ≤ y) × (y ≤ 2098) → length book ≡ 24 * days y → Sound y (figuresOf Credit) n

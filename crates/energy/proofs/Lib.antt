@@ -13,3 +13,4 @@ pub mod Signs
 pub mod SpanLaws
 pub mod SparedLaws
 pub mod TrimmedLaws
+pub mod Unsettled

@@ -17,8 +17,8 @@ use Rattle.laws.specs.Answer.{Answer}
 use Rattle.schedule.specs.declared.notices.Notice.{Notice}
 use Rattle.energy.specs.Asked.{askedBy, placesOn, needed}
 use Rattle.energy.specs.Energy.{energyOf}
-use Rattle.energy.specs.EnergyIn.{energyIn, Ready}
-use Rattle.energy.specs.Held.{heldIn, hoursIn}
+use Rattle.energy.specs.EnergyIn.{heldEnergy, Ready}
+use Rattle.energy.specs.Held.{heldIn, heldHours}
 use Rattle.energy.specs.HoursOf.{HoursFor}
 use Rattle.energy.specs.Line.{unsettled, byFault, lineOf}
 use Rattle.energy.specs.Readings.{firstFault, InBook}
@@ -60,16 +60,16 @@ module _ (y : ℕ) (masks : List ℕ) (n : Notice) (r : Refs) (q : r ≡ heldIn 
     unfolding askedBy
     enough = le-ltb (length (referenceDays y masks (n .day))) 5 (omega (arith, count-is))
 
-    fault-is : firstFault book (placesOn (hoursIn hours 0 (hours .all)) (n .day ∷ r .days)) ≡ firstFault book (needed (askedBy y masks n))
+    fault-is : firstFault book (placesOn (heldHours hours 0 (hours .all)) (n .day ∷ r .days)) ≡ firstFault book (needed (askedBy y masks n))
     unfolding needed askedBy
     fault-is = rw (hf .needed-are, days-are h)
 
-    energy-is : energyIn book (n .day) hours (r .days) ≡ energyOf book (askedBy y masks n)
-    unfolding energyIn energyOf askedBy
+    energy-is : heldEnergy book (n .day) hours (r .days) ≡ energyOf book (askedBy y masks n)
+    unfolding heldEnergy energyOf askedBy
     energy-is = rw (hf .warm-are, hf .event-are, hf .warm-long, hf .event-long, days-are h)
 
-    pub line-five : (f : Fault) (en : ℕ) (a : Answer) → f ≡ firstFault book (placesOn (hoursIn hours 0 (hours .all)) (n .day ∷ r .days))
-        → en ≡ energyIn book (n .day) hours (r .days) → a ≡ byFault f en → a ≡ lineOf book (askedBy y masks n)
+    pub line-five : (f : Fault) (en : ℕ) (a : Answer) → f ≡ firstFault book (placesOn (heldHours hours 0 (hours .all)) (n .day ∷ r .days))
+        → en ≡ heldEnergy book (n .day) hours (r .days) → a ≡ byFault f en → a ≡ lineOf book (askedBy y masks n)
     unfolding lineOf
     line-five f en a p s t = kept _ enough (rw (← fault-is, ← energy-is, ← p, ← s) t)
 

@@ -8,12 +8,12 @@ use native.Mathlib.Nat.{mul-add, mul-zero, mul-sub, mul-le-mul-left, min-eq-left
 use native.Mathlib.Omega.{arith}
 use lib.ListN.{length}
 use Rattle.laws.proofs.Every.{Every, left, right, mapped, imply, both, all}
+use Rattle.laws.proofs.Order.{either-order}
 use Rattle.energy.specs.Asked.{Asked, placesOn, needed}
 use Rattle.energy.specs.Energy.{sumOver, drawnAt, trimmedAt, energyOf}
 use Rattle.energy.specs.Readings.{readingAt}
 use Rattle.energy.specs.Spared.{sparedOf}
 use Rattle.energy.specs.Trimmed.{sumOf, smallestOf, largestOf, trimmedOf}
-use Rattle.energy.proofs.Signs.{either-order}
 
 min-times : (k x y : ℕ) → min (k * x) (k * y) ≡ k * min x y
 min-times k x y =

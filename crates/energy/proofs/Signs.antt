@@ -2,23 +2,15 @@
 -- so that each signed value of the spared energy is a difference and its order a fact of ℕ.
 -- Assumes nothing.
 use Prim.Native.Nat.{ℕ, zero, suc, _+_, _*_, _-_, _≤_, _<_}
-use mathlib.Core.Logic.{_⊎_, inl, inr, ⊎-elim}
+use mathlib.Core.Logic.{_⊎_, ⊎-elim}
 use mathlib.Core.Path.{_≡_, refl, sym, ap, _∙_}
-use native.Mathlib.Decide.{decLt}
 use native.Mathlib.Nat.{add-mul}
 use native.Mathlib.Omega.{arith}
 use lib.Dec.{ltb}
 use lib.IntN.{ℤ, pos, negsuc, negℤ, subℕ, _+ℤ_, _-ℤ_, _*ℤ_}
 use lib.Signed.{ltZ}
 use borrow.Author.Tests.{lt-ltb, le-ltb}
-
--- two numbers stand in one order or the other
-pub either-order : (a b : ℕ) → (a < b) ⊎ (b ≤ a)
-either-order a b = split (decLt a b)
-  where
-    split : Dec (a < b) → (a < b) ⊎ (b ≤ a)
-    split (yes h) = inl h
-    split (no f) = inr (omega arith)
+use Rattle.laws.proofs.Order.{either-order}
 
 sub-neg : (a b : ℕ) → a < b → subℕ a b ≡ negsuc (b - suc a)
 sub-neg a b h = rw (lt-ltb a b h)

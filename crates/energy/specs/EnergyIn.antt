@@ -4,18 +4,18 @@ use Prim.Native.Nat.{ℕ, _-_, _≤_, _<_}
 use mathlib.Core.List.{List}
 use lib.ListN.{getD}
 use Rattle.energy.specs.Energy.{sumOver, drawnAt, trimmedAt}
-use Rattle.energy.specs.Held.{hoursIn}
+use Rattle.energy.specs.Held.{heldHours}
 use Rattle.energy.specs.Readings.{InBook}
 use Rattle.energy.specs.Spared.{sparedOf}
 use Rattle.energy.specs.declared.hours.Hours.{Hours}
 
-unfoldable pub energyIn : List ℕ → ℕ → Hours → List ℕ → ℕ
-energyIn book day hours refs =
+unfoldable pub heldEnergy : List ℕ → ℕ → Hours → List ℕ → ℕ
+heldEnergy book day hours refs =
     sparedOf (hours .all - hours .warm) (hours .warm)
-    (sumOver (trimmedAt book refs) (hoursIn hours (hours .warm) (hours .all)))
-    (sumOver (trimmedAt book refs) (hoursIn hours 0 (hours .warm)))
-    (sumOver (drawnAt book day) (hoursIn hours 0 (hours .warm)))
-    (sumOver (drawnAt book day) (hoursIn hours (hours .warm) (hours .all)))
+    (sumOver (trimmedAt book refs) (heldHours hours (hours .warm) (hours .all)))
+    (sumOver (trimmedAt book refs) (heldHours hours 0 (hours .warm)))
+    (sumOver (drawnAt book day) (heldHours hours 0 (hours .warm)))
+    (sumOver (drawnAt book day) (heldHours hours (hours .warm) (hours .all)))
 
 -- all that is asked of a book of n numbers lies in it
 pub record Ready (n day : ℕ) (hours : Hours) (refs : List ℕ) : Type 0 where

@@ -21,8 +21,8 @@ unfoldable pub span : List ℕ → ℕ → ℕ → List ℕ
 span at from to = take (to - from) (drop from at)
 
 -- of the hours, the warm-up hours come first, and then the event hours
-abbrev pub hoursIn : Hours → ℕ → ℕ → List ℕ
-hoursIn hours from to = span (hours .at) from to
+abbrev pub heldHours : Hours → ℕ → ℕ → List ℕ
+heldHours hours from to = span (hours .at) from to
 
 -- where a search backwards from day d goes on: past the days right before it that carry an event
 unfoldable pub pastEvents : List ℕ → ℕ → ℕ

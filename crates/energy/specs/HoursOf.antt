@@ -5,7 +5,7 @@ use mathlib.Core.List.{_++_}
 use mathlib.Core.Path.{_≡_}
 use lib.ListN.{length, getD}
 use Rattle.energy.specs.Asked.{hoursFrom, warmUp}
-use Rattle.energy.specs.Held.{hoursIn}
+use Rattle.energy.specs.Held.{heldHours}
 use Rattle.energy.specs.declared.hours.Hours.{Hours}
 
 -- hours that lie inside a band: late enough for the warm-up before them, at most four, and inside the day
@@ -16,9 +16,9 @@ pub record Spans (start end : ℕ) : Type 0 where
   pub in-day : end ≤ 20
 
 pub record HoursFor (start end : ℕ) (r : Hours) : Type 0 where
-  pub warm-are : hoursIn r 0 (r .warm) ≡ warmUp start
-  pub event-are : hoursIn r (r .warm) (r .all) ≡ hoursFrom start (end - start)
-  pub needed-are : hoursIn r 0 (r .all) ≡ warmUp start ++ hoursFrom start (end - start)
+  pub warm-are : heldHours r 0 (r .warm) ≡ warmUp start
+  pub event-are : heldHours r (r .warm) (r .all) ≡ hoursFrom start (end - start)
+  pub needed-are : heldHours r 0 (r .all) ≡ warmUp start ++ hoursFrom start (end - start)
   pub warm-long : length (warmUp start) ≡ r .warm
   pub event-long : length (hoursFrom start (end - start)) ≡ r .all - r .warm
   pub warm-few : (2 ≤ r .warm) × (r .warm ≤ 3)

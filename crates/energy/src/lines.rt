@@ -4,7 +4,7 @@ ghost use mathlib.Core.Bool.{false};
 ghost use lib.ListN.{length};
 ghost use Rattle.calendar.specs.Book.{noPart};
 ghost use Rattle.energy.specs.Asked.{askedBy};
-ghost use Rattle.energy.specs.EnergyIn.{energyIn, Ready};
+ghost use Rattle.energy.specs.EnergyIn.{heldEnergy, Ready};
 ghost use Rattle.energy.specs.HoursOf.{Spans};
 ghost use Rattle.energy.specs.Line.{linePaper, byFault, lineOf, eventAnswer};
 use crate::hours::Hours;
@@ -34,7 +34,7 @@ pub enum Line {
 // The spared energy, from R, B, A and C.
 fn energy(book: &[u32], day: u32, hours: Hours, refs: [u32; 5]) -> u64
     requires { ⌜ Ready (length (now book)) day hours refs ⌝ }
-    ensures { λ r. ⌜ r ≡ energyIn (now (book .entry)) day hours refs ⌝ }
+    ensures { λ r. ⌜ r ≡ heldEnergy (now (book .entry)) day hours refs ⌝ }
 {
     let warm = hours.warm;
     let all = hours.all;

@@ -4,7 +4,7 @@ ghost use mathlib.Core.List.{_∷_};
 ghost use Prim.Native.Nat.{ℕ, _+_, _*_, _<_, _≤_};
 ghost use lib.ListN.{length, getD};
 ghost use Rattle.energy.specs.Asked.{placesOf, placesOn};
-ghost use Rattle.energy.specs.Held.{hoursIn};
+ghost use Rattle.energy.specs.Held.{heldHours};
 ghost use Rattle.energy.specs.Readings.{InBook, readingAt, faultOf, isClean, firstFault};
 use crate::hours::Hours;
 
@@ -41,7 +41,7 @@ fn fault_of(value: u32, place: u32) -> Fault
 
 // The reading of an hour.
 pub(crate) fn reading(book: &[u32], day: u32, hour: u32) -> u32
-    requires { ⌜ (InBook (length (now book)) day) × (hour < 24) ⌝ }
+    requires { ⌜ InBook (length (now book)) day × (hour < 24) ⌝ }
     ensures { λ r. ⌜ r ≡ readingAt (now (book .entry)) (24 * day + hour) ⌝ }
 {
     let at = 24 * (day as usize) + hour as usize;
@@ -50,9 +50,9 @@ pub(crate) fn reading(book: &[u32], day: u32, hour: u32) -> u32
 
 // The first fault among a day's readings of the needed hours.
 fn day_fault(book: &[u32], day: u32, hours: Hours) -> Fault
-    requires { ⌜ (InBook (length (now book)) day) × (hours .all ≤ 7) ⌝ }
+    requires { ⌜ InBook (length (now book)) day × (hours .all ≤ 7) ⌝ }
     requires { ⌜ ((k : ℕ) → k < 7 → getD (hours .at) k 0 < 24) ⌝ }
-    ensures { λ r. ⌜ r ≡ firstFault (now (book .entry)) (placesOf day (hoursIn hours 0 (hours .all))) ⌝ }
+    ensures { λ r. ⌜ r ≡ firstFault (now (book .entry)) (placesOf day (heldHours hours 0 (hours .all))) ⌝ }
 {
     let at = hours.at;
     let all = hours.all;
@@ -70,10 +70,10 @@ fn day_fault(book: &[u32], day: u32, hours: Hours) -> Fault
 
 // The first fault among all needed readings: the event day's, and then those of the five reference days, nearest first.
 pub(crate) fn first_fault(book: &[u32], day: u32, hours: Hours, refs: [u32; 5]) -> Fault
-    requires { ⌜ (InBook (length (now book)) day) × (hours .all ≤ 7) ⌝ }
+    requires { ⌜ InBook (length (now book)) day × (hours .all ≤ 7) ⌝ }
     requires { ⌜ ((k : ℕ) → k < 7 → getD (hours .at) k 0 < 24) ⌝ }
     requires { ⌜ ((k : ℕ) → k < 5 → InBook (length (now book)) (getD refs k 0)) ⌝ }
-    ensures { λ r. ⌜ r ≡ firstFault (now (book .entry)) (placesOn (hoursIn hours 0 (hours .all)) (day ∷ refs)) ⌝ }
+    ensures { λ r. ⌜ r ≡ firstFault (now (book .entry)) (placesOn (heldHours hours 0 (hours .all)) (day ∷ refs)) ⌝ }
 {
     let fault = day_fault(book, day, hours);
     if !is_clean(fault) {

@@ -4,7 +4,7 @@ ghost use mathlib.Core.List.{map};
 ghost use Prim.Native.Nat.{ℕ, _^_, _<_, _≤_};
 ghost use lib.ListN.{length, getD};
 ghost use Rattle.energy.specs.Energy.{sumOver, drawnAt, trimmedAt};
-ghost use Rattle.energy.specs.Held.{hoursIn};
+ghost use Rattle.energy.specs.Held.{heldHours};
 ghost use Rattle.energy.specs.Readings.{InBook};
 use crate::hours::Hours;
 use crate::readings::reading;
@@ -12,9 +12,9 @@ use crate::trimmed::trimmed_of;
 
 // A day's own readings over some of the hours: A or C.
 pub(crate) fn drawn_sum(book: &[u32], day: u32, hours: Hours, from: usize, to: usize) -> u64
-    requires { ⌜ (InBook (length (now book)) day) × (from ≤ to) × (to ≤ 7) ⌝ }
+    requires { ⌜ InBook (length (now book)) day × (from ≤ to) × (to ≤ 7) ⌝ }
     requires { ⌜ ((k : ℕ) → k < 7 → getD (hours .at) k 0 < 24) ⌝ }
-    ensures { λ r. ⌜ (r ≡ sumOver (drawnAt (now (book .entry)) day) (hoursIn hours from to)) × (r < 2 ^ 40) ⌝ }
+    ensures { λ r. ⌜ (r ≡ sumOver (drawnAt (now (book .entry)) day) (heldHours hours from to)) × (r < 2 ^ 40) ⌝ }
 {
     let at = hours.at;
     let mut sum: u64 = 0;
@@ -46,7 +46,7 @@ pub(crate) fn trimmed_sum(book: &[u32], refs: [u32; 5], hours: Hours, from: usiz
     requires { ⌜ (from ≤ to) × (to ≤ 7) ⌝ }
     requires { ⌜ ((k : ℕ) → k < 7 → getD (hours .at) k 0 < 24) ⌝ }
     requires { ⌜ ((k : ℕ) → k < 5 → InBook (length (now book)) (getD refs k 0)) ⌝ }
-    ensures { λ r. ⌜ (r ≡ sumOver (trimmedAt (now (book .entry)) refs) (hoursIn hours from to)) × (r < 2 ^ 40) ⌝ }
+    ensures { λ r. ⌜ (r ≡ sumOver (trimmedAt (now (book .entry)) refs) (heldHours hours from to)) × (r < 2 ^ 40) ⌝ }
 {
     let at = hours.at;
     let mut sum: u64 = 0;

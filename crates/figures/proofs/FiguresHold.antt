@@ -17,23 +17,33 @@ use Rattle.energy.specs.Spared.{trialOf, aboveLimit, sparedOf}
 use Rattle.energy.specs.Trimmed.{sumOf, smallestOf, largestOf, trimmedOf}
 use Rattle.event_hours.specs.Days.{marksNone, withHours, masksTo, masksOf}
 use Rattle.event_hours.specs.Hours.{hoursMask}
+use Rattle.form.specs.Form.{bodyOf, formOf}
+use Rattle.form.specs.Lines.{eventLineAt, valuesAt, headAt, readLineAt, eventLines, readLines}
+use Rattle.form.specs.Numbers.{digitOf, digitsFrom, numberFrom, numberAt, wordFrom, wordAt, markAt, fieldAt, keyedAt}
+use Rattle.form.specs.Places.{bookDays, misplaced, misplacedRead}
+use Rattle.form.specs.Said.{eventsOf, valuesOf, bookOf}
 use Rattle.laws.specs.Answer.{refuse}
 use Rattle.laws.specs.Table.{firstOf, orElse}
 use Rattle.money.specs.Lines.{eventBy, energyTo, centsAt, lineAt, linesTo}
 use Rattle.money.specs.Refusals.{badBook, badPrice, shortOutput, callRows, refusalOf}
 use Rattle.money.specs.Settlement.{settledBy, writtenBy, settlement, written}
 use Rattle.money.specs.Worth.{roundedWorth}
+use Rattle.numerals.specs.Decimal.{digitsIn, decimal, field}
+use Rattle.numerals.specs.Lines.{fields, lineBytes, bytesOfLines}
+use Rattle.printing.specs.Sheet.{refusedLines, noticeLine, noticeLines, statementLines}
 use Rattle.schedule.specs.ListCheck.{ownRows, listRows, noticeRows, noticeAnswer, sofarAt, answerAt, fromNotice, badList, listAnswer, checkAnswer}
 use Rattle.schedule.specs.Notices.{noticeAt, hoursOf, hoursTo}
 use Rattle.schedule.specs.Profiles.{figuresOf, named}
-use Rattle.schedule.specs.Rules.{outsidePeriod, excludedDay, barredWeekend, outsideBands, badHours, badLength, startsBefore, sameBand, overLimit}
+use Rattle.schedule.specs.Rules.{outsidePeriod, onExcludedDay, barredWeekend, outsideBands, badHours, badLength, startsBefore, sameBand, overLimit}
+use Rattle.text.specs.Statement.{settlementBytes, settledBytes, valuesBytes, formBytes, statementOf}
 use Rattle.figures.specs.CalendarFigures.{alsoFrom, alsoExcluded, calendarFigures}
 use Rattle.figures.specs.EnergyFigures.{sampleDay, sampleBook, sampleList, energyFigures}
 use Rattle.figures.specs.Figure.{Figure}
 use Rattle.figures.specs.Figures.{figures}
 use Rattle.figures.specs.MoneyFigures.{moneyFigures}
 use Rattle.figures.specs.ScheduleFigures.{mornings, hundredHours, scheduleFigures}
+use Rattle.figures.specs.TextFigures.{bytesIn, sampleInput, sampleOutput, twice, textFigures}
 
 pub figures-hold : map (λ (f : Figure). f .paper) figures ≡ map (λ (f : Figure). f .computed) figures
-unfolding calendarFigures alsoExcluded alsoFrom easterSunday refuse noEasterYear easterT easterInBook among goodFriday easterMonday excluded leap days noDay scheduleFigures mornings hundredHours checkAnswer listAnswer badList fromNotice answerAt noticeAnswer noticeRows ownRows listRows firstOf orElse sofarAt noticeAt hoursOf hoursTo named figuresOf outsidePeriod excludedDay barredWeekend outsideBands badHours badLength startsBefore sameBand overLimit noWinter inPeriod firstWeekday weekday weekend energyFigures sampleDay sampleBook sampleList eventAnswer lineOf askedBy warmUp hoursFrom needed placesOn firstFault faultOf energyOf sumOver trimmedAt trimmedOf sumOf smallestOf largestOf sparedOf aboveLimit trialOf referenceDays before serves masksOf masksTo withHours marksNone hoursMask moneyFigures settlement settledBy written writtenBy refusalOf callRows badBook badPrice shortOutput linesTo lineAt centsAt energyTo eventBy roundedWorth
+unfolding calendarFigures alsoExcluded alsoFrom easterSunday refuse noEasterYear easterT easterInBook among goodFriday easterMonday excluded leap days noDay scheduleFigures mornings hundredHours checkAnswer listAnswer badList fromNotice answerAt noticeAnswer noticeRows ownRows listRows firstOf orElse sofarAt noticeAt hoursOf hoursTo named figuresOf outsidePeriod onExcludedDay barredWeekend outsideBands badHours badLength startsBefore sameBand overLimit noWinter inPeriod firstWeekday weekday weekend energyFigures sampleDay sampleBook sampleList eventAnswer lineOf askedBy warmUp hoursFrom needed placesOn firstFault faultOf energyOf sumOver trimmedAt trimmedOf sumOf smallestOf largestOf sparedOf aboveLimit trialOf referenceDays before serves masksOf masksTo withHours marksNone hoursMask moneyFigures settlement settledBy written writtenBy refusalOf callRows badBook badPrice shortOutput linesTo lineAt centsAt energyTo eventBy roundedWorth textFigures bytesIn sampleInput sampleOutput twice statementOf formBytes valuesBytes settledBytes settlementBytes formOf bodyOf keyedAt fieldAt markAt wordAt wordFrom numberAt numberFrom digitsFrom digitOf eventLines readLines eventLineAt readLineAt headAt valuesAt misplacedRead misplaced bookDays eventsOf bookOf valuesOf statementLines refusedLines noticeLines noticeLine bytesOfLines lineBytes fields field decimal digitsIn
 figures-hold = refl

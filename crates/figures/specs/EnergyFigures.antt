@@ -3,13 +3,11 @@
 use Prim.Native.Nat.{ℕ, _*_}
 use mathlib.Core.List.{List, [], _∷_, _++_}
 use lib.ListN.{replicate}
-use Rattle.energy.specs.Line.{settled, eventAnswer}
 use Rattle.energy.specs.Readings.{missingMark}
 use Rattle.energy.specs.ReferenceDays.{referenceDays}
 use Rattle.energy.specs.Spared.{sparedOf}
 use Rattle.event_hours.specs.Days.{masksOf}
 use Rattle.laws.specs.Answer.{Answer, given}
-use Rattle.schedule.specs.Notices.{noticeAt}
 use Rattle.figures.specs.Figure.{Figure, figure}
 
 -- the reference days of an event on a day, with the events of a list
@@ -48,6 +46,4 @@ energyFigures =
     -- "P H = W = 3, R = 126,000, B = 9,000, A = 12,000: C = 11,000 gives 720,000; C = 10,999 gives 666,018."
     ∷ figure (given (720000 ∷ [])) (sparedWith 11000)
     ∷ figure (given (666018 ∷ [])) (sparedWith 10999)
-    -- the sample: `line=38,6,9,0,0,81000,234`, without the cents
-    ∷ figure (settled 81000) (eventAnswer 2026 sampleBook (masksOf sampleList) (noticeAt sampleList 0))
     ∷ []

@@ -6,6 +6,7 @@ use Rattle.figures.specs.EnergyFigures.{energyFigures}
 use Rattle.figures.specs.Figure.{Figure}
 use Rattle.figures.specs.MoneyFigures.{moneyFigures}
 use Rattle.figures.specs.ScheduleFigures.{scheduleFigures}
+use Rattle.figures.specs.TextFigures.{textFigures}
 
 abbrev pub figures : List Figure
-figures = calendarFigures ++ (scheduleFigures ++ (energyFigures ++ moneyFigures))
+figures = calendarFigures ++ (scheduleFigures ++ (energyFigures ++ (moneyFigures ++ textFigures)))

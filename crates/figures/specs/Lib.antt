@@ -3,4 +3,5 @@ pub mod CalendarFigures
 pub mod ScheduleFigures
 pub mod EnergyFigures
 pub mod MoneyFigures
+pub mod TextFigures
 pub mod Figures

@@ -16,8 +16,8 @@ abbrev pub spares : ℕ → Event
 spares energy = record { code = 0; place = 0; energy = energy }
 
 -- what a settlement answers, as numbers
-abbrev pub answered : Settlement → Answer
-answered s = given (s .number ∷ s .place ∷ s .energy ∷ s .cents ∷ [])
+abbrev pub numbersOf : Settlement → Answer
+numbersOf s = given (s .number ∷ s .place ∷ s .energy ∷ s .cents ∷ [])
 
 unfoldable pub moneyFigures : List Figure
 moneyFigures =
@@ -25,9 +25,8 @@ moneyFigures =
     figure (given (1 ∷ 0 ∷ 1 ∷ [])) (given (map (centsAt 50000 (λ (k : ℕ). spares 180)) (0 ∷ 1 ∷ 2 ∷ [])))
     -- "P Energy 128,520 at 50,000: 357 (document 004's sample bill)."
     ∷ figure (given (357 ∷ [])) (given (roundedWorth 50000 128520 ∷ []))
-    -- the sample: `line=38,6,9,0,0,81000,234`, `energy=81000`, `total=234`
-    ∷ figure (given (0 ∷ 0 ∷ 81000 ∷ 234 ∷ [])) (answered (settlement 2026 sampleBook 51967 sampleList 4))
+    -- the sample's line; "Numbers past the last line are untouched."
     ∷ figure (given (0 ∷ 0 ∷ 81000 ∷ 234 ∷ 7 ∷ [])) (given (written 2026 sampleBook 51967 sampleList (7 ∷ 7 ∷ 7 ∷ 7 ∷ 7 ∷ [])))
     -- "Empty list: accepted, total 0."
-    ∷ figure (given (0 ∷ 0 ∷ 0 ∷ 0 ∷ [])) (answered (settlement 2026 sampleBook 51967 [] 0))
+    ∷ figure (given (0 ∷ 0 ∷ 0 ∷ 0 ∷ [])) (numbersOf (settlement 2026 sampleBook 51967 [] 0))
     ∷ []

@@ -2,15 +2,15 @@
 -- Assumes nothing.
 use Prim.Native.Nat.{ℕ, _+_}
 use mathlib.Core.List.{List, [], _∷_, _++_, map}
-use mathlib.Core.Path.{_≡_}
+use mathlib.Core.Path.{_≡_, _∙_}
 use native.Mathlib.Omega.{arith}
 use lib.Dec.{eqb}
 use lib.ListN.{length}
 use borrow.Author.Tests.{eqb-true}
 use Rattle.laws.proofs.Every.{Every}
-use Rattle.numerals.specs.Lines.{line, row, lineBytes, bytesOfLines}
+use Rattle.numerals.specs.Lines.{line, bytesOfLines}
 use Rattle.numerals.specs.Words.{bytesOf}
-use Rattle.numerals.proofs.LineLaws.{lines-append}
+use Rattle.numerals.proofs.LineLaws.{line-one, lines-more, lines-append}
 use Rattle.form.specs.Document.{EventLine, ReadLine, Document, eventLine, readLine, documentLines, textOf, Small, SmallEvent, SmallRead, Writable}
 use Rattle.form.specs.Form.{bodyOf, formOf}
 use Rattle.form.specs.Lines.{eventLines, readLines}
@@ -36,7 +36,7 @@ record BodyWritten (s : List ℕ) (count at : ℕ) : Type 0 where
 
 body-written : (s : List ℕ) (winter price events at : ℕ) (f : Shape) → bodyOf s winter price events at ≡ form.Whole f
     → BodyWritten s events at
-unfolding bodyOf bytesOfLines lineBytes row
+unfolding bodyOf
 body-written s winter price events at f e =
     after-lines form.Broken (no-form f) (eventLines events s at 4) _ e
     (λ p is e₁. after-number (form.Broken (events + 4)) (no-form f (events + 4)) (keyedAt s p (bytesOf "reads=")) _ e₁
@@ -53,7 +53,7 @@ body-written s winter price events at f e =
       small = x .small;
       few = y .1;
       small-reads = z .small;
-      here = rw lines-append (here-then (x .here) (here-then (y .0) (z .here)));
+      here = rw (lines-append, lines-more, line-one) (here-then (x .here) (here-then (y .0) (z .here)));
     })))
 
 -- the values that a text is the text of
@@ -63,7 +63,7 @@ pub record Held (s : List ℕ) : Type 0 where
   pub is : s ≡ textOf document
 
 pub form-written : (s : List ℕ) (f : Shape) → formOf s ≡ form.Whole f → Held s
-unfolding formOf documentLines bytesOfLines lineBytes row
+unfolding formOf documentLines
 form-written s f e =
     after-number (form.Broken 1) (no-form f 1) (keyedAt s 0 (bytesOf "winter=")) _ e
     (λ winter p k e₁. after-number (form.Broken 2) (no-form f 2) (keyedAt s p (bytesOf "price=")) _ e₁
@@ -84,5 +84,5 @@ form-written s f e =
             counted = r .few;
             reads = r .small-reads;
           };
-      is = here-whole (here-then (x .0) (here-then (y .0) (here-then (z .0) (r .here))));
+      is = here-whole (here-then (x .0) (here-then (y .0) (here-then (z .0) (r .here)))) ∙ simp (lines-more, line-one);
     })))

@@ -3,6 +3,7 @@ pub mod LineLaws
 pub mod PlaceLaws
 pub mod SaidLaws
 pub mod ReadNumbers
+pub mod ReadOneLine
 pub mod ReadLines
 pub mod RoundTrip
 pub mod WrittenNumbers
@@ -10,3 +11,7 @@ pub mod WrittenLines
 pub mod Converse
 pub mod Formed
 pub mod NoneLeftOut
+pub mod BrokenLines
+pub mod LinesInText
+pub mod FirstBroken
+pub mod StopsEarly

@@ -5,7 +5,7 @@ use mathlib.Core.List.{List}
 use mathlib.Core.Path.{_≡_, ap, _∙_}
 use native.Mathlib.Omega.{arith}
 use Rattle.numerals.specs.Words.{comma, lineEnd}
-use Rattle.form.specs.Lines.{afterEvent, afterReading, eventAt, eventLines, valuesAt, readAt, readLines}
+use Rattle.form.specs.Lines.{afterEvent, afterReading, eventLineAt, eventLines, valuesAt, readLineAt, readLines}
 use Rattle.form.specs.Numbers.{afterNumber, afterStep, numberAt, markAt}
 use Rattle.form.specs.declared.lines.Event.the-variants as event
 use Rattle.form.specs.declared.lines.Lines.the-variants as lines
@@ -24,15 +24,15 @@ events-done n s at line h = rw h
 
 pub events-turn : (n : ℕ) (s : List ℕ) (at line : ℕ) → 0 < n
     → eventLines n s at line
-    ≡ afterEvent (lines.Broken line) (eventAt s at) (λ day start end p. eventLines (n - 1) s p (line + 1))
+    ≡ afterEvent (lines.Broken line) (eventLineAt s at) (λ day start end p. eventLines (n - 1) s p (line + 1))
 unfolding eventLines
 events-turn n s at line h = ap (λ (k : ℕ). eventLines k s at line) (above-zero n h)
 
 module _ (n : ℕ) (s : List ℕ) (at line : ℕ) (h : 0 < n) where
-  pub events-bad : eventAt s at ≡ event.Broken → eventLines n s at line ≡ lines.Broken line
+  pub events-bad : eventLineAt s at ≡ event.Broken → eventLines n s at line ≡ lines.Broken line
   events-bad e = events-turn n s at line h ∙ rw e
 
-  pub events-more : {d b c p : ℕ} → eventAt s at ≡ event.Line d b c p
+  pub events-more : {d b c p : ℕ} → eventLineAt s at ≡ event.Line d b c p
       → eventLines n s at line ≡ eventLines (n - 1) s p (line + 1)
   events-more e = events-turn n s at line h ∙ rw e
 
@@ -42,15 +42,15 @@ reads-done n s at line h = rw h
 
 pub reads-turn : (n : ℕ) (s : List ℕ) (at line : ℕ) → 0 < n
     → readLines n s at line
-    ≡ afterReading (lines.Broken line) (readAt s at) (λ day hour count run p. readLines (n - 1) s p (line + 1))
+    ≡ afterReading (lines.Broken line) (readLineAt s at) (λ day hour count run p. readLines (n - 1) s p (line + 1))
 unfolding readLines
 reads-turn n s at line h = ap (λ (k : ℕ). readLines k s at line) (above-zero n h)
 
 module _ (n : ℕ) (s : List ℕ) (at line : ℕ) (h : 0 < n) where
-  pub reads-bad : readAt s at ≡ reading.Broken → readLines n s at line ≡ lines.Broken line
+  pub reads-bad : readLineAt s at ≡ reading.Broken → readLines n s at line ≡ lines.Broken line
   reads-bad e = reads-turn n s at line h ∙ rw e
 
-  pub reads-more : {d b c v p : ℕ} → readAt s at ≡ reading.Line d b c v p
+  pub reads-more : {d b c v p : ℕ} → readLineAt s at ≡ reading.Line d b c v p
       → readLines n s at line ≡ readLines (n - 1) s p (line + 1)
   reads-more e = reads-turn n s at line h ∙ rw e
 

@@ -11,13 +11,13 @@ use borrow.Author.Tests.{leb-false, ltb-false}
 use Rattle.laws.proofs.Every.{Every}
 use Rattle.laws.proofs.Guards.{neither}
 use Rattle.form.specs.Document.{ReadLine, misplacedIn}
-use Rattle.form.specs.Places.{placeOf, misplaced}
+use Rattle.form.specs.Places.{hourPlace, misplaced}
 
 -- a line that is not misplaced lies in the book
-in-book : (days end day hour count : ℕ) → misplaced days end day hour count ≡ false → placeOf day hour + count ≤ 24 * days
+in-book : (days end day hour count : ℕ) → misplaced days end day hour count ≡ false → hourPlace day hour + count ≤ 24 * days
 unfolding misplaced
 in-book days end day hour count e =
-    let outer = neither (leb days day || ltb 24 (hour + count)) (ltb (placeOf day hour) end) e in
+    let outer = neither (leb days day || ltb 24 (hour + count)) (ltb (hourPlace day hour) end) e in
     let inner = neither (leb days day) (ltb 24 (hour + count)) (outer .0) in
     omega (arith, leb-false days day (inner .0), ltb-false 24 (hour + count) (inner .1))
 
@@ -27,7 +27,7 @@ not-here false k r h e = (refl, e)
 
 -- the place after a read line's values
 abbrev pub endOf : ReadLine → ℕ
-endOf x = placeOf (x .day) (x .hour) + length (x .values)
+endOf x = hourPlace (x .day) (x .hour) + length (x .values)
 
 pub none-left-out : (days : ℕ) (xs : List ReadLine) (k end : ℕ) → 0 < k → misplacedIn days xs k end ≡ 0
     → Every (λ (x : ReadLine). endOf x ≤ 24 * days) xs

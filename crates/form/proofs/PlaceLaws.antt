@@ -1,4 +1,5 @@
--- Laws of the places of read lines: the ways out and the turn of the loop that reads and judges them, and what its answer tells.
+-- Laws of the places of read lines: the days of the book, the ways out and the turn of the loop that reads and judges the lines, and what
+-- its answer tells.
 -- Assumes nothing.
 use Prim.Native.Nat.{ℕ, _+_, _-_, _≤_, _<_}
 use mathlib.Core.Bool.{Bool, true, false, cond}
@@ -9,24 +10,29 @@ use lib.Dec.{eqb}
 use borrow.Author.Tests.{eqb-true, ne-eqb}
 use Rattle.calendar.proofs.Promise.{no-winter, is-winter, winter-count}
 use Rattle.calendar.specs.Answers.{daysPaper, winterDays}
+use Rattle.calendar.specs.Winters.{noWinter, days}
 use Rattle.calendar.specs.declared.answers.Days.{Days}
 use Rattle.calendar.specs.declared.answers.Days.the-variants.{Are, NoWinter}
-use Rattle.form.specs.Lines.{afterLines, readAt, readLines}
-use Rattle.form.specs.Places.{bookDays, placeOf, misplaced, misplacedRead, placedLines}
+use Rattle.form.specs.Lines.{afterLines, readLineAt, readLines}
+use Rattle.form.specs.Places.{bookDays, hourPlace, misplaced, misplacedRead, placedLines}
 use Rattle.form.specs.declared.lines.Lines.{Lines}
 use Rattle.form.specs.declared.lines.Lines.the-variants as lines
 use Rattle.form.specs.declared.lines.Placed.the-variants as placed
 use Rattle.form.specs.declared.lines.Reading.the-variants as reading
 use Rattle.form.proofs.LineLaws.{above-zero}
 
--- the days of a winter's book, by what the calendar answers
+-- the days of a winter's book are those of the winter
+pub book-days : (w : ℕ) → noWinter w ≡ false → bookDays w ≡ days w
+unfolding bookDays
+book-days w e = rw e
+
+-- and by what the calendar answers
 pub wrong-winter : (w : ℕ) (r : Days) → r ≡ NoWinter → daysPaper r ≡ winterDays w → 0 ≡ bookDays w
 unfolding bookDays
 wrong-winter w r q e = rw (no-winter w r q e)
 
 pub right-winter : (w n : ℕ) (r : Days) → r ≡ Are n → daysPaper r ≡ winterDays w → n ≡ bookDays w
-unfolding bookDays
-right-winter w n r q e = rw (is-winter w n r q e) (winter-count w n r q e)
+right-winter w n r q e = winter-count w n r q e ∙ sym (book-days w (is-winter w n r q e))
 
 -- the first misplaced line: the one that was found, or that of the lines that are left
 abbrev pub foundOr : ℕ → ℕ → ℕ
@@ -47,9 +53,9 @@ turned true false found line rest e h = refl
 turned false here found line rest e h = rw e
 
 module _ (days m : ℕ) (s : List ℕ) (at line end found : ℕ) (h : 0 < m) {day hour count from p : ℕ}
-    (e : readAt s at ≡ reading.Line day hour count from p) where
+    (e : readLineAt s at ≡ reading.Line day hour count from p) where
   abbrev rest : ℕ
-  rest = misplacedRead days (m - 1) s p (line + 1) (placeOf day hour + count)
+  rest = misplacedRead days (m - 1) s p (line + 1) (hourPlace day hour + count)
 
   turn : misplacedRead days m s at line end ≡ cond (misplaced days end day hour count) line rest
   unfolding misplacedRead

@@ -11,8 +11,9 @@ use lib.Dec.{lit<}
 use lib.ListN.{length, drop, getD, length-append, length-drop}
 use lib.Seq.{drop-append-seam, drop-drop, getD-drop}
 use borrow.Author.Tests.{lt-ltb, le-ltb, eq-eqb, ne-eqb}
-use Rattle.numerals.proofs.DecimalLaws.{decimal-one, decimal-more, length-more, below-or, Lead, lead}
-use Rattle.numerals.proofs.LineLaws.{line-is, row-last}
+use Rattle.laws.proofs.Order.{either-order}
+use Rattle.numerals.proofs.DecimalLaws.{decimal-one, decimal-more, length-more, field-before, length-field, Lead, lead}
+use Rattle.numerals.proofs.LineLaws.{line-one}
 use Rattle.numerals.specs.Decimal.{digitByte, decimal, field}
 use Rattle.numerals.specs.Lines.{lineBytes}
 use Rattle.numerals.specs.Words.{comma, lineEnd}
@@ -71,7 +72,7 @@ digits-read (suc f) n l p g k =
     ∙ digits-read f (n / 10) (digitByte (n % 10) ∷ l) p (omega arith) (omega arith)
     ∙ digit-reads (n % 10) l (p + length (decimal (n / 10))) (n / 10) (omega arith) (omega arith)
     ∙ rw (e, q))
-    (below-or n 10)
+    (either-order n 10)
 
 -- a number at the front of some bytes, before a byte c that is no digit
 module _ (n c : ℕ) (l : List ℕ) (p : ℕ) (k : Small n) (ends : NoDigit c) where
@@ -128,24 +129,39 @@ module _ (s r : List ℕ) (at : ℕ) where
   unfolding wordAt
   word-reads word e = ap (λ (x : List ℕ). wordFrom x at word) e ∙ word-front word r at
 
--- a number and the byte that ends it
-pub field-reads : (s r : List ℕ) (at n c : ℕ) → Small n → NoDigit c → drop at s ≡ field n c ++ r → fieldAt s at c ≡ number.Is n (at + length (field n c))
-unfolding fieldAt field
-field-reads s r at n c k ends e =
-    let e₁ : drop at s ≡ decimal n ++ (c ∷ r) = e ∙ append-assoc (decimal n) (c ∷ []) r in
-    let e₂ : drop (at + length (decimal n)) s ≡ c ∷ r = past s (decimal n) (c ∷ r) at e₁ in
-    let z : at + length (decimal n) + 1 ≡ at + length (decimal n ++ (c ∷ [])) = omega (arith, length-append (decimal n) (c ∷ [])) in
-    rw (number-reads s r at n c k ends e₁, mark-reads s r (at + length (decimal n)) c e₂, z)
+-- a number and the byte that ends it, and what follows
+pub record FieldReads (s r : List ℕ) (at n c : ℕ) : Type 0 where
+  pub number : numberAt s at ≡ number.Is n (at + length (decimal n))
+  pub byte : drop (at + length (decimal n)) s ≡ c ∷ r
+  pub ends : at + length (decimal n) + 1 ≡ at + length (field n c)
+  pub mark : markAt s (at + length (decimal n)) c ≡ step.To (at + length (field n c))
+  pub next : drop (at + length (field n c)) s ≡ r
+
+module _ (s r : List ℕ) (at n c : ℕ) (k : Small n) (ends : NoDigit c) (e : drop at s ≡ field n c ++ r) where
+  pub field-parts : FieldReads s r at n c
+  field-parts =
+      let e₁ : drop at s ≡ decimal n ++ (c ∷ r) = e ∙ field-before n c r in
+      let e₂ : drop (at + length (decimal n)) s ≡ c ∷ r = past s (decimal n) (c ∷ r) at e₁ in
+      let z : at + length (decimal n) + 1 ≡ at + length (field n c) = omega (arith, length-field n c) in
+      record {
+        number = number-reads s r at n c k ends e₁;
+        byte = e₂;
+        ends = z;
+        mark = rw (← z) (mark-reads s r (at + length (decimal n)) c e₂);
+        next = past s (field n c) r at e;
+      }
+
+  pub field-reads : fieldAt s at c ≡ number.Is n (at + length (field n c))
+  unfolding fieldAt
+  field-reads = rw (field-parts .number, field-parts .mark)
 
 -- a line of a key and one number
 pub keyed-reads : (s key r : List ℕ) (at n : ℕ) → Small n → drop at s ≡ lineBytes (record { key = key; numbers = n ∷ [] }) ++ r
     → keyedAt s at key ≡ number.Is n (at + length (lineBytes (record { key = key; numbers = n ∷ [] })))
 unfolding keyedAt
 keyed-reads s key r at n k e =
-    let l : lineBytes (record { key = key; numbers = n ∷ [] }) ≡ key ++ field n lineEnd
-    = line-is (record { key = key; numbers = n ∷ [] }) ∙ ap (λ (x : List ℕ). key ++ x) (row-last n) in
-    let e₁ : drop at s ≡ key ++ (field n lineEnd ++ r) = e ∙ ap (λ (x : List ℕ). x ++ r) l ∙ append-assoc key (field n lineEnd) r in
+    let e₁ : drop at s ≡ key ++ (field n lineEnd ++ r) = e ∙ simp (line-one, append-assoc) in
     let e₂ : drop (at + length key) s ≡ field n lineEnd ++ r = past s key (field n lineEnd ++ r) at e₁ in
     let z : at + length key + length (field n lineEnd) ≡ at + length (lineBytes (record { key = key; numbers = n ∷ [] }))
-    = omega (arith, ap length l, length-append key (field n lineEnd)) in
+    = omega (arith, ap length (line-one key n), length-append key (field n lineEnd)) in
     rw (word-reads s (field n lineEnd ++ r) at key e₁, field-reads s r (at + length key) n lineEnd k line-end-no-digit e₂, z)

@@ -2,15 +2,15 @@
 -- where the one before it ends.
 -- Assumes nothing.
 use Prim.Native.Nat.{ℕ, _+_}
-use mathlib.Core.List.{List, [], _∷_, _++_, map, append-nil}
+use mathlib.Core.List.{List, [], _∷_, _++_, append-nil}
 use mathlib.Core.Path.{_≡_, refl, sym, ap, _∙_}
 use native.Mathlib.Omega.{arith}
 use lib.ListN.{length, drop, length-append}
 use borrow.Author.Tests.{eq-eqb}
-use Rattle.numerals.proofs.LineLaws.{lines-append}
-use Rattle.numerals.specs.Lines.{line, lineBytes, bytesOfLines}
+use Rattle.numerals.proofs.LineLaws.{lines-more, lines-append}
+use Rattle.numerals.specs.Lines.{line, lineBytes}
 use Rattle.numerals.specs.Words.{bytesOf}
-use Rattle.form.specs.Document.{Document, eventLine, readLine, documentLines, textOf, Writable, noticesIn, misplacedLineIn, bookIn}
+use Rattle.form.specs.Document.{Document, documentLines, textOf, Writable, noticesIn, misplacedLineIn, bookIn}
 use Rattle.form.specs.Form.{bodyOf, formOf}
 use Rattle.form.specs.Places.{bookDays, misplacedLine}
 use Rattle.form.specs.Said.{eventsOf, bookOf, bookRead}
@@ -74,9 +74,8 @@ module _ (d : Document) (ok : Writable d) where
   F = readBytes (d .reads)
 
   parts : textOf d ≡ A ++ (B ++ (C ++ (D ++ (E ++ F))))
-  unfolding documentLines bytesOfLines
-  parts =
-      ap (λ (l : List ℕ). A ++ (B ++ (C ++ l))) (lines-append (map eventLine (d .events)) (line "reads=" (length (d .reads) ∷ []) ∷ map readLine (d .reads)))
+  unfolding documentLines
+  parts = simp (lines-more, lines-append)
 
   start : 0 + length A ≡ length A
   start = omega arith

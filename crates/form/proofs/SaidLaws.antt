@@ -6,10 +6,10 @@ use mathlib.Core.Path.{_≡_, ap, _∙_}
 use native.Mathlib.Omega.{arith}
 use lib.ListN.{set}
 use lib.Seq.{sets}
-use Rattle.numerals.specs.Words.{comma, lineEnd}
-use Rattle.form.specs.Lines.{afterEvent, afterHead, afterValues, eventAt, headAt, valuesAt}
+use Rattle.numerals.specs.Words.{bytesOf, comma, lineEnd}
+use Rattle.form.specs.Lines.{afterEvent, afterHead, afterValues, eventLineAt, headAt, valuesAt}
 use Rattle.form.specs.Numbers.{afterNumber, afterStep, numberAt, markAt}
-use Rattle.form.specs.Places.{placeOf}
+use Rattle.form.specs.Places.{hourPlace}
 use Rattle.form.specs.Said.{eventsOf, valuesInto, bookRead}
 use Rattle.form.specs.declared.lines.Event.the-variants as event
 use Rattle.form.specs.declared.lines.Head.the-variants as head
@@ -23,7 +23,7 @@ unfolding eventsOf
 eventsOf-done n s at h = rw h
 
 eventsOf-turn : (n : ℕ) (s : List ℕ) (at : ℕ) → 0 < n
-    → eventsOf n s at ≡ afterEvent [] (eventAt s at) (λ day start end p. day ∷ start ∷ end ∷ eventsOf (n - 1) s p)
+    → eventsOf n s at ≡ afterEvent [] (eventLineAt s at) (λ day start end p. day ∷ start ∷ end ∷ eventsOf (n - 1) s p)
 unfolding eventsOf
 eventsOf-turn n s at h = ap (λ (k : ℕ). eventsOf k s at) (above-zero n h)
 
@@ -37,10 +37,10 @@ sets-three l k a b c r =
 
 -- one event line more is stored, or there is none
 module _ (list : List ℕ) (k n : ℕ) (s : List ℕ) (at : ℕ) (h : 0 < n) where
-  pub events-stop : eventAt s at ≡ event.Broken → sets list k (eventsOf n s at) ≡ list
+  pub events-stop : eventLineAt s at ≡ event.Broken → sets list k (eventsOf n s at) ≡ list
   events-stop e = rw (eventsOf-turn n s at h, e)
 
-  pub events-store : {d b c p : ℕ} → eventAt s at ≡ event.Line d b c p
+  pub events-store : {d b c p : ℕ} → eventLineAt s at ≡ event.Line d b c p
       → sets list k (eventsOf n s at) ≡ sets (set (set (set list k d) (k + 1) b) (k + 2) c) (k + 3) (eventsOf (n - 1) s p)
   events-store {d} {b} {c} {p} e = rw (eventsOf-turn n s at h, e) (sets-three list k d b c (eventsOf (n - 1) s p))
 
@@ -79,19 +79,19 @@ book-done m s at book h = rw h
 
 module _ (m : ℕ) (s : List ℕ) (at : ℕ) (book : List ℕ) (h : 0 < m) where
   book-turn : bookRead m s at book
-      ≡ afterHead book (headAt s at)
-      (λ day hour from. afterValues (valuesInto 24 s from book (placeOf day hour)) (valuesAt 24 s from 0)
-      (λ count next. bookRead (m - 1) s next (valuesInto 24 s from book (placeOf day hour))))
+      ≡ afterHead book (headAt s at (bytesOf "read="))
+      (λ day hour from. afterValues (valuesInto 24 s from book (hourPlace day hour)) (valuesAt 24 s from 0)
+      (λ count next. bookRead (m - 1) s next (valuesInto 24 s from book (hourPlace day hour))))
   unfolding bookRead
   book-turn = ap (λ (k : ℕ). bookRead k s at book) (above-zero m h)
 
-  pub book-stop : headAt s at ≡ head.Broken → bookRead m s at book ≡ book
+  pub book-stop : headAt s at (bytesOf "read=") ≡ head.Broken → bookRead m s at book ≡ book
   book-stop e = book-turn ∙ rw e
 
-  module _ {day hour from : ℕ} (e : headAt s at ≡ head.Start day hour from) where
-    pub book-cut : valuesAt 24 s from 0 ≡ values.Broken → bookRead m s at book ≡ valuesInto 24 s from book (placeOf day hour)
+  module _ {day hour from : ℕ} (e : headAt s at (bytesOf "read=") ≡ head.Start day hour from) where
+    pub book-cut : valuesAt 24 s from 0 ≡ values.Broken → bookRead m s at book ≡ valuesInto 24 s from book (hourPlace day hour)
     book-cut f = book-turn ∙ rw (e, f)
 
     pub book-more : {count p : ℕ} → valuesAt 24 s from 0 ≡ values.Run count p
-        → bookRead m s at book ≡ bookRead (m - 1) s p (valuesInto 24 s from book (placeOf day hour))
+        → bookRead m s at book ≡ bookRead (m - 1) s p (valuesInto 24 s from book (hourPlace day hour))
     book-more f = book-turn ∙ rw (e, f)

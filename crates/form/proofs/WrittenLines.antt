@@ -1,17 +1,18 @@
--- What is read as an event line, as values, as a read line or as some of these lines is written so, and its numbers can be written:
--- part after part for a line, by recursion on how many are left for values and for lines.
+-- What is read as the start of a line, an event line, values, a read line or some of these lines is written so, and its numbers can be
+-- written: part after part for a line, by recursion on how many are left for values and for lines.
 -- Assumes nothing.
 use Prim.Native.Nat.{ℕ, zero, suc, _+_, _≤_}
-use mathlib.Core.List.{List, [], _∷_, _++_, append-assoc, map}
+use mathlib.Core.List.{List, [], _∷_, map}
 use mathlib.Core.Path.{_≡_, refl}
 use native.Mathlib.Omega.{arith}
 use lib.ListN.{length}
 use Rattle.laws.proofs.Every.{Every}
-use Rattle.numerals.specs.Decimal.{field}
-use Rattle.numerals.specs.Lines.{row, lineBytes, bytesOfLines}
+use Rattle.numerals.specs.Lines.{fields, lineBytes, bytesOfLines}
 use Rattle.numerals.specs.Words.{bytesOf, comma, lineEnd}
+use Rattle.numerals.proofs.DecimalLaws.{field-is}
+use Rattle.numerals.proofs.LineLaws.{fields-last, fields-more, lines-none, lines-more}
 use Rattle.form.specs.Document.{EventLine, ReadLine, eventLine, readLine, Small, SmallEvent, SmallRead}
-use Rattle.form.specs.Lines.{eventAt, valuesAt, afterEvent, afterHead, afterValues, afterReading, afterLines, headAt, readAt, eventLines, readLines}
+use Rattle.form.specs.Lines.{headAt, eventLineAt, valuesAt, afterHead, afterEvent, afterValues, afterReading, afterLines, readLineAt, eventLines, readLines}
 use Rattle.form.specs.Numbers.{numberAt, wordAt, markAt, afterStep, fieldAt}
 use Rattle.form.specs.declared.lines.Event.{Event}
 use Rattle.form.specs.declared.lines.Event.the-variants as event
@@ -25,6 +26,7 @@ use Rattle.form.specs.declared.lines.Values.{Values}
 use Rattle.form.specs.declared.lines.Values.the-variants as values
 use Rattle.form.specs.declared.numbers.Step.{Step}
 use Rattle.form.specs.declared.numbers.Step.the-variants as step
+use Rattle.form.proofs.ReadOneLine.{headBytes, headed-bytes}
 use Rattle.form.proofs.WrittenNumbers.{Here, here-none, here-then, after-number, after-step, number-written, mark-written, word-written, field-written}
 
 -- what is broken is no event line, no head, no values, no read line and no lines
@@ -76,36 +78,47 @@ either-step : {A P : Type 0} {z : A} (broken : A) (x : Step) (go : ℕ → A) �
 either-step broken (step.To p) go e f g = f p refl e
 either-step broken step.Broken go e f g = g e
 
+-- what is read as a key and two numbers, with a comma after each, is written so
+pub head-written : (s : List ℕ) (at : ℕ) (key : List ℕ) (day hour q : ℕ) → headAt s at key ≡ head.Start day hour q
+    → Here s at (headBytes key day hour) q × (Small day × Small hour)
+unfolding headAt
+head-written s at key day hour q e =
+    let never = no-head day hour q in
+    after-step head.Broken never (wordAt s at key) _ e
+    (λ p is e₁. after-number head.Broken never (fieldAt s p comma) _ e₁
+    (λ d p₁ f₁ e₂. after-number head.Broken never (fieldAt s p₁ comma) _ e₂
+    (λ h p₂ f₂ same.
+    let w = field-written s p comma day p₁ (cc (f₁, same)) in
+    let v = field-written s p₁ comma hour q (cc (f₂, same)) in
+    (here-then (word-written s at key p is) (here-then (w .0) (v .0)), (w .1, v .1)))))
+
 -- what is read as an event line is that line
-pub event-written : (s : List ℕ) (at : ℕ) (x : EventLine) (q : ℕ) → eventAt s at ≡ event.Line (x .day) (x .start) (x .end) q
+pub event-written : (s : List ℕ) (at : ℕ) (x : EventLine) (q : ℕ) → eventLineAt s at ≡ event.Line (x .day) (x .start) (x .end) q
     → Here s at (lineBytes (eventLine x)) q × SmallEvent x
-unfolding eventAt lineBytes row
+unfolding eventLineAt
 event-written s at x q e =
     let never = no-event (x .day) (x .start) (x .end) q in
-    after-step event.Broken never (wordAt s at (bytesOf "event=")) _ e
-    (λ p key e₁. after-number event.Broken never (fieldAt s p comma) _ e₁
-    (λ d p₁ f₁ e₂. after-number event.Broken never (fieldAt s p₁ comma) _ e₂
-    (λ a p₂ f₂ e₃. after-number event.Broken never (fieldAt s p₂ lineEnd) _ e₃
-    (λ b p₃ f₃ same.
-    let day = field-written s p comma (x .day) p₁ (cc (f₁, same)) in
-    let start = field-written s p₁ comma (x .start) p₂ (cc (f₂, same)) in
-    let end = field-written s p₂ lineEnd (x .end) q (cc (f₃, same)) in (
-      here-then (word-written s at (bytesOf "event=") p key) (here-then (day .0) (here-then (start .0) (end .0))),
-      record { day = day .1; start = start .1; end = end .1 },
-    )))))
+    after-head event.Broken never (headAt s at (bytesOf "event=")) _ e
+    (λ d a p key e₁. after-number event.Broken never (fieldAt s p lineEnd) _ e₁
+    (λ b p₁ f same.
+    let w = head-written s at (bytesOf "event=") (x .day) (x .start) p (cc (key, same)) in
+    let end = field-written s p lineEnd (x .end) q (cc (f, same)) in (
+      rw (headed-bytes _ (x .day) (x .start) (x .end ∷ []) (omega arith), fields-last (x .end)) (here-then (w .0) (end .0)),
+      record { day = w .1 .0; start = w .1 .1; end = end .1 },
+    )))
 
 -- values that are written from a position on: k values stand before them, and at most `left` of them are allowed
 pub record ValuesWritten (left : ℕ) (s : List ℕ) (at k count q : ℕ) : Type 0 where
   pub value : ℕ
   pub more : List ℕ
-  pub here : Here s at (row (value ∷ more)) q
+  pub here : Here s at (fields (value ∷ more)) q
   pub small : Every Small (value ∷ more)
   pub counted : count ≡ k + suc (length more)
   pub few : suc (length more) ≤ left
 
 pub values-written : (left : ℕ) (s : List ℕ) (at k count q : ℕ) → valuesAt left s at k ≡ values.Run count q
     → ValuesWritten left s at k count q
-unfolding valuesAt row field
+unfolding valuesAt
 values-written zero s at k count q e = absurd (no-values count q e)
 values-written (suc left) s at k count q e =
     after-number values.Broken (no-values count q) (numberAt s at) _ e
@@ -117,7 +130,7 @@ values-written (suc left) s at k count q e =
     record {
       value = v;
       more = [];
-      here = here-then (w .0) (mark-written s p lineEnd q (cc (to, same)));
+      here = rw (fields-last, field-is) (here-then (w .0) (mark-written s p lineEnd q (cc (to, same))));
       small = (w .1, tt);
       counted = omega arith;
       few = omega arith;
@@ -128,69 +141,35 @@ values-written (suc left) s at k count q e =
     record {
       value = v;
       more = rest .value ∷ rest .more;
-      here = here-then (here-then (w .0) (mark-written s p comma r to)) (rest .here);
+      here = rw (fields-more, field-is) (here-then (here-then (w .0) (mark-written s p comma r to)) (rest .here));
       small = (w .1, rest .small);
       counted = omega arith;
       few = omega arith;
     })))
 
--- a read line's head that is written from a position on: the key, the day and the hour
-pub record HeadWritten (s : List ℕ) (at day hour q : ℕ) : Type 0 where
-  pub here : Here s at (bytesOf "read=" ++ (field day comma ++ field hour comma)) q
-  pub day-small : Small day
-  pub hour-small : Small hour
-
-pub head-written : (s : List ℕ) (at day hour q : ℕ) → headAt s at ≡ head.Start day hour q → HeadWritten s at day hour q
-unfolding headAt
-head-written s at day hour q e =
-    let never = no-head day hour q in
-    after-step head.Broken never (wordAt s at (bytesOf "read=")) _ e
-    (λ p key e₁. after-number head.Broken never (fieldAt s p comma) _ e₁
-    (λ d p₁ f₁ e₂. after-number head.Broken never (fieldAt s p₁ comma) _ e₂
-    (λ h p₂ f₂ same.
-    let on-day = field-written s p comma day p₁ (cc (f₁, same)) in
-    let from-hour = field-written s p₁ comma hour q (cc (f₂, same)) in
-    record {
-      here = here-then (word-written s at (bytesOf "read=") p key) (here-then (on-day .0) (from-hour .0));
-      day-small = on-day .1;
-      hour-small = from-hour .1;
-    })))
-
--- the head's bytes before others
-head-bytes : (day hour : ℕ) (bytes : List ℕ)
-    → (bytesOf "read=" ++ (field day comma ++ field hour comma)) ++ bytes
-    ≡ bytesOf "read=" ++ (field day comma ++ (field hour comma ++ bytes))
-head-bytes day hour bytes = simp append-assoc
-
-here-same : {s a b : List ℕ} {at q : ℕ} → a ≡ b → Here s at a q → Here s at b q
-here-same {s} {at = at} {q = q} e h = rw (← e) h
-
 -- a read line that is written from a position on
-pub record ReadWritten (s : List ℕ) (at day hour count q : ℕ) : Type 0 where
+pub record ReadWritten (s : List ℕ) (at count q : ℕ) : Type 0 where
   pub line : ReadLine
-  pub day-is : line .day ≡ day
-  pub hour-is : line .hour ≡ hour
   pub counted : length (line .values) ≡ count
   pub here : Here s at (lineBytes (readLine line)) q
   pub small : SmallRead line
 
-pub read-written : (s : List ℕ) (at day hour count from q : ℕ) → readAt s at ≡ reading.Line day hour count from q
-    → ReadWritten s at day hour count q
-unfolding readAt lineBytes row
+pub read-written : (s : List ℕ) (at day hour count from q : ℕ) → readLineAt s at ≡ reading.Line day hour count from q
+    → ReadWritten s at count q
+unfolding readLineAt
 read-written s at day hour count from q e =
     let never = no-reading day hour count from q in
-    after-head reading.Broken never (headAt s at) _ e
+    after-head reading.Broken never (headAt s at (bytesOf "read=")) _ e
     (λ d h p key e₁. after-values reading.Broken never (valuesAt 24 s p 0) _ e₁
     (λ k p₁ run same.
-    let w = head-written s at day hour p (cc (key, same)) in
+    let w = head-written s at (bytesOf "read=") day hour p (cc (key, same)) in
     let r = values-written 24 s p 0 count q (cc (run, same)) in
+    let x : ReadLine = record { day = day; hour = hour; values = r .value ∷ r .more } in
     record {
-      line = record { day = day; hour = hour; values = r .value ∷ r .more };
-      day-is = refl;
-      hour-is = refl;
+      line = x;
       counted = omega arith;
-      here = here-same (head-bytes day hour (row (r .value ∷ r .more))) (here-then (w .here) (r .here));
-      small = record { day = w .day-small; hour = w .hour-small; values = r .small; some = omega arith; few = r .few };
+      here = rw (headed-bytes _ day hour (x .values) (omega arith)) (here-then (w .0) (r .here));
+      small = record { day = w .1 .0; hour = w .1 .1; values = r .small; some = omega arith; few = r .few };
     }))
 
 -- n event lines that are written from a position on
@@ -201,12 +180,12 @@ pub record EventsWritten (n : ℕ) (s : List ℕ) (at q : ℕ) : Type 0 where
   pub small : Every SmallEvent events
 
 pub events-written : (n : ℕ) (s : List ℕ) (at line q : ℕ) → eventLines n s at line ≡ lines.Whole q → EventsWritten n s at q
-unfolding eventLines bytesOfLines
+unfolding eventLines
 events-written zero s at line q e =
     let stays : q ≡ at = cc in
-    record { events = []; counted = refl; here = rw stays (here-none s at); small = tt }
+    record { events = []; counted = refl; here = rw (stays, lines-none) (here-none s at); small = tt }
 events-written (suc n) s at line q e =
-    after-event (lines.Broken line) (no-lines line q) (eventAt s at) _ e
+    after-event (lines.Broken line) (no-lines line q) (eventLineAt s at) _ e
     (λ day start end p is on.
     let x : EventLine = record { day = day; start = start; end = end } in
     let w = event-written s at x p is in
@@ -214,7 +193,7 @@ events-written (suc n) s at line q e =
     record {
       events = x ∷ r .events;
       counted = omega (arith, r .counted);
-      here = here-then (w .0) (r .here);
+      here = rw lines-more (here-then (w .0) (r .here));
       small = (w .1, r .small);
     })
 
@@ -226,18 +205,18 @@ pub record ReadsWritten (m : ℕ) (s : List ℕ) (at q : ℕ) : Type 0 where
   pub small : Every SmallRead reads
 
 pub reads-written : (m : ℕ) (s : List ℕ) (at line q : ℕ) → readLines m s at line ≡ lines.Whole q → ReadsWritten m s at q
-unfolding readLines bytesOfLines
+unfolding readLines
 reads-written zero s at line q e =
     let stays : q ≡ at = cc in
-    record { reads = []; counted = refl; here = rw stays (here-none s at); small = tt }
+    record { reads = []; counted = refl; here = rw (stays, lines-none) (here-none s at); small = tt }
 reads-written (suc m) s at line q e =
-    after-reading (lines.Broken line) (no-lines line q) (readAt s at) _ e
+    after-reading (lines.Broken line) (no-lines line q) (readLineAt s at) _ e
     (λ day hour count from p is on.
     let w = read-written s at day hour count from p is in
     let r = reads-written m s p (line + 1) q on in
     record {
       reads = w .line ∷ r .reads;
       counted = omega (arith, r .counted);
-      here = here-then (w .here) (r .here);
+      here = rw lines-more (here-then (w .here) (r .here));
       small = (w .small, r .small);
     })

@@ -14,7 +14,7 @@ use lib.Seq.{drop-cons}
 use borrow.Author.Tests.{ltb-true, ltb-false, eqb-true, eqb-false}
 use Rattle.numerals.specs.Decimal.{digitByte, decimal, field}
 use Rattle.numerals.specs.Words.{lineEnd}
-use Rattle.numerals.proofs.DecimalLaws.{decimal-one, decimal-next}
+use Rattle.numerals.proofs.DecimalLaws.{decimal-one, decimal-next, field-is}
 use Rattle.form.specs.Numbers.{largest, digitOf, digitsFrom, numberFrom, numberAt, wordFrom, wordAt, markAt, afterNumber, afterStep, fieldAt, keyedAt}
 use Rattle.form.specs.declared.numbers.Number.{Number}
 use Rattle.form.specs.declared.numbers.Number.the-variants as number
@@ -196,13 +196,13 @@ word-written s at word q e =
 
 -- what is read as a number and the byte that ends it is that field
 pub field-written : (s : List ℕ) (at end n q : ℕ) → fieldAt s at end ≡ number.Is n q → Here s at (field n end) q × (n ≤ largest)
-unfolding fieldAt field
+unfolding fieldAt
 field-written s at end n q e =
     after-number number.Broken (no-number n q) (numberAt s at) _ e
     (λ v p is on. after-step number.Broken (no-number n q) (markAt s p end) _ on
     (λ r to same.
     let w = number-written s at n p (cc (is, same)) in
-    (here-then (w .0) (mark-written s p end q (cc (to, same))), w .1)))
+    (rw (field-is n end) (here-then (w .0) (mark-written s p end q (cc (to, same)))), w .1)))
 
 -- what is read as a key and a number is a line of these
 pub keyed-written : (s : List ℕ) (at : ℕ) (key : List ℕ) (n q : ℕ) → keyedAt s at key ≡ number.Is n q

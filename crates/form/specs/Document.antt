@@ -8,7 +8,7 @@ use lib.Seq.{sets}
 use Rattle.laws.proofs.Every.{Every}
 use Rattle.numerals.specs.Lines.{Line, line, bytesOfLines}
 use Rattle.form.specs.Numbers.{largest}
-use Rattle.form.specs.Places.{placeOf, misplaced}
+use Rattle.form.specs.Places.{hourPlace, misplaced}
 
 pub record EventLine : Type 0 where
   pub day : ℕ
@@ -81,7 +81,7 @@ unfoldable pub misplacedIn : ℕ → List ReadLine → ℕ → ℕ → ℕ
 misplacedIn days [] k end = 0
 misplacedIn days (x ∷ xs) k end =
     cond (misplaced days end (x .day) (x .hour) (length (x .values))) k
-    (misplacedIn days xs (k + 1) (placeOf (x .day) (x .hour) + length (x .values)))
+    (misplacedIn days xs (k + 1) (hourPlace (x .day) (x .hour) + length (x .values)))
 
 -- the first line of the text that is so misplaced, or 0
 abbrev pub misplacedLineIn : ℕ → Document → ℕ
@@ -90,4 +90,4 @@ misplacedLineIn days d = misplacedIn days (d .reads) (length (d .events) + 4 + 1
 -- the book once the read lines are put into it
 unfoldable pub bookIn : List ReadLine → List ℕ → List ℕ
 bookIn [] book = book
-bookIn (x ∷ xs) book = bookIn xs (sets book (placeOf (x .day) (x .hour)) (x .values))
+bookIn (x ∷ xs) book = bookIn xs (sets book (hourPlace (x .day) (x .hour)) (x .values))

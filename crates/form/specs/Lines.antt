@@ -16,13 +16,12 @@ use Rattle.form.specs.declared.lines.Reading.the-variants as reading
 use Rattle.form.specs.declared.lines.Values.{Values}
 use Rattle.form.specs.declared.lines.Values.the-variants as values
 
--- `event=day,s,e`
-unfoldable pub eventAt : List ℕ → ℕ → Event
-eventAt s at =
-    afterStep event.Broken (wordAt s at (bytesOf "event="))
-    (λ p. afterNumber event.Broken (fieldAt s p comma)
-    (λ day q. afterNumber event.Broken (fieldAt s q comma)
-    (λ start r. afterNumber event.Broken (fieldAt s r lineEnd) (λ end next. event.Line day start end next))))
+-- a key and two numbers, with a comma after each: the start of `event=day,s,e` and of `read=day,hour,v,..`
+unfoldable pub headAt : List ℕ → ℕ → List ℕ → Head
+headAt s at key =
+    afterStep head.Broken (wordAt s at key)
+    (λ p. afterNumber head.Broken (fieldAt s p comma)
+    (λ day q. afterNumber head.Broken (fieldAt s q comma) (λ hour next. head.Start day hour next)))
 
 -- at least one value and at most `left`, after k values
 unfoldable pub valuesAt : ℕ → List ℕ → ℕ → ℕ → Values
@@ -33,14 +32,14 @@ valuesAt (suc left) s at k =
     (markAt s p lineEnd)
     (λ next. values.Run (k + 1) next))
 
--- go on after an event line, a read line's head, values, a read line or some lines; a broken one gives the answer that stands first
+-- go on after a head, an event line, values, a read line or some lines; a broken one gives the answer that stands first
+abbrev pub afterHead : {A : Type 0} → A → Head → (ℕ → ℕ → ℕ → A) → A
+afterHead broken (head.Start day hour p) go = go day hour p
+afterHead broken head.Broken go = broken
+
 abbrev pub afterEvent : {A : Type 0} → A → Event → (ℕ → ℕ → ℕ → ℕ → A) → A
 afterEvent broken (event.Line day start end p) go = go day start end p
 afterEvent broken event.Broken go = broken
-
-abbrev pub afterHead : {A : Type 0} → A → Head → (ℕ → ℕ → ℕ → A) → A
-afterHead broken (head.Start day hour from) go = go day hour from
-afterHead broken head.Broken go = broken
 
 abbrev pub afterValues : {A : Type 0} → A → Values → (ℕ → ℕ → A) → A
 afterValues broken (values.Run k p) go = go k p
@@ -54,25 +53,24 @@ abbrev pub afterLines : {A : Type 0} → (ℕ → A) → Lines → (ℕ → A) �
 afterLines broken (lines.Whole p) go = go p
 afterLines broken (lines.Broken line) go = broken line
 
--- `read=day,hour,`
-unfoldable pub headAt : List ℕ → ℕ → Head
-headAt s at =
-    afterStep head.Broken (wordAt s at (bytesOf "read="))
-    (λ p. afterNumber head.Broken (fieldAt s p comma)
-    (λ day q. afterNumber head.Broken (fieldAt s q comma) (λ hour from. head.Start day hour from)))
+-- `event=day,s,e`
+unfoldable pub eventLineAt : List ℕ → ℕ → Event
+eventLineAt s at =
+    afterHead event.Broken (headAt s at (bytesOf "event="))
+    (λ day start p. afterNumber event.Broken (fieldAt s p lineEnd) (λ end next. event.Line day start end next))
 
 -- `read=day,hour,v,..`
-unfoldable pub readAt : List ℕ → ℕ → Reading
-readAt s at =
-    afterHead reading.Broken (headAt s at)
+unfoldable pub readLineAt : List ℕ → ℕ → Reading
+readLineAt s at =
+    afterHead reading.Broken (headAt s at (bytesOf "read="))
     (λ day hour from. afterValues reading.Broken (valuesAt 24 s from 0) (λ count next. reading.Line day hour count from next))
 
 -- n lines, of which the first is line `line` of the text
 unfoldable pub eventLines : ℕ → List ℕ → ℕ → ℕ → Lines
 eventLines zero s at line = lines.Whole at
-eventLines (suc n) s at line = afterEvent (lines.Broken line) (eventAt s at) (λ day start end p. eventLines n s p (line + 1))
+eventLines (suc n) s at line = afterEvent (lines.Broken line) (eventLineAt s at) (λ day start end p. eventLines n s p (line + 1))
 
 unfoldable pub readLines : ℕ → List ℕ → ℕ → ℕ → Lines
 readLines zero s at line = lines.Whole at
 readLines (suc n) s at line =
-    afterReading (lines.Broken line) (readAt s at) (λ day hour count from p. readLines n s p (line + 1))
+    afterReading (lines.Broken line) (readLineAt s at) (λ day hour count from p. readLines n s p (line + 1))

@@ -7,7 +7,7 @@ use mathlib.Core.Bool.{Bool, cond, _||_}
 use mathlib.Core.List.{List}
 use lib.Dec.{ltb, leb}
 use Rattle.calendar.specs.Winters.{noWinter, days}
-use Rattle.form.specs.Lines.{afterReading, afterLines, readAt, readLines}
+use Rattle.form.specs.Lines.{afterReading, afterLines, readLineAt, readLines}
 use Rattle.form.specs.declared.lines.Placed.{Placed}
 use Rattle.form.specs.declared.lines.Placed.the-variants as placed
 
@@ -16,19 +16,19 @@ unfoldable pub bookDays : ℕ → ℕ
 bookDays winter = cond (noWinter winter) 0 (days winter)
 
 -- the place of an hour in the book
-abbrev pub placeOf : ℕ → ℕ → ℕ
-placeOf day hour = 24 * day + hour
+abbrev pub hourPlace : ℕ → ℕ → ℕ
+hourPlace day hour = 24 * day + hour
 
 -- a line of so many values from an hour of a day on, where the book has so many days and the line before ends before place `end`
 unfoldable pub misplaced : ℕ → ℕ → ℕ → ℕ → ℕ → Bool
-misplaced days end day hour count = leb days day || ltb 24 (hour + count) || ltb (placeOf day hour) end
+misplaced days end day hour count = leb days day || ltb 24 (hour + count) || ltb (hourPlace day hour) end
 
 -- the first of m read lines that is misplaced, or 0: the next of them is the kth line and stands at position `at`
 unfoldable pub misplacedRead : ℕ → ℕ → List ℕ → ℕ → ℕ → ℕ → ℕ
 misplacedRead days zero s at k end = 0
 misplacedRead days (suc m) s at k end =
-    afterReading k (readAt s at)
-    (λ day hour count from next. cond (misplaced days end day hour count) k (misplacedRead days m s next (k + 1) (placeOf day hour + count)))
+    afterReading k (readLineAt s at)
+    (λ day hour count from next. cond (misplaced days end day hour count) k (misplacedRead days m s next (k + 1) (hourPlace day hour + count)))
 
 -- the first line of a text that is so misplaced, or 0: four lines stand before the read lines beside the event lines
 abbrev pub misplacedLine : ℕ → ℕ → ℕ → List ℕ → ℕ → ℕ

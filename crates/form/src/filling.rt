@@ -4,13 +4,13 @@ ghost use Prim.Native.Nat.{_*_, _/_, _≤_, min};
 ghost use lib.ListN.{length, set};
 ghost use lib.Seq.{sets};
 ghost use Rattle.form.specs.Lines.{valuesAt};
-ghost use Rattle.form.specs.Places.{placeOf};
+ghost use Rattle.form.specs.Places.{hourPlace};
 ghost use Rattle.form.specs.Said.{eventsOf, valuesInto, bookRead};
 use crate::lines::Event;
 use crate::lines::Head;
 use crate::lines::Values;
 use crate::lines::event_line;
-use crate::lines::read_head;
+use crate::lines::head_at;
 use crate::numbers::Number;
 use crate::numbers::Step;
 use crate::numbers::mark_at;
@@ -66,7 +66,7 @@ fn put(book: &mut [u32], k: usize, value: u32)
 // Stores the values of a read line from a position on at the hours of a day from an hour on, and answers how many and where they end.
 fn store_values(text: &[u8], at: usize, day: u32, hour: u32, book: &mut [u32]) -> Values
     ensures { λ r. ⌜ r ≡ valuesAt 24 (now (text .entry)) at 0 ⌝ }
-    ensures { λ _. ⌜ now (book .exit) ≡ valuesInto 24 (now (text .entry)) at (now (book .entry)) (placeOf day hour) ⌝ }
+    ensures { λ _. ⌜ now (book .exit) ≡ valuesInto 24 (now (text .entry)) at (now (book .entry)) (hourPlace day hour) ⌝ }
 {
     let mut left: u32 = 24;
     let mut count: u32 = 0;
@@ -99,7 +99,7 @@ pub fn fill_book(text: &[u8], shape: Shape, book: &mut [u32])
     let mut left = shape.reads;
     let mut i = shape.reads_at;
     while 0 < left {
-        let Head::Start(day, hour, from) = read_head(text, i) else {
+        let Head::Start(day, hour, from) = head_at(text, i, b"read=") else {
             return;
         };
         let Values::Run(_, next) = store_values(text, from, day, hour, book) else {

@@ -1,7 +1,7 @@
 // The lines of a text.
 ghost use mathlib.Core.Path.{_≡_};
 ghost use Prim.Native.Nat.{_≤_};
-ghost use Rattle.form.specs.Lines.{eventAt, valuesAt, headAt, readAt, eventLines};
+ghost use Rattle.form.specs.Lines.{headAt, eventLineAt, valuesAt, readLineAt, eventLines};
 ghost use Rattle.form.specs.Places.{placedLines};
 use crate::numbers::Number;
 use crate::numbers::Step;
@@ -19,7 +19,7 @@ pub enum Event {
     Broken,
 }
 
-// The day and the hour of a read line, and the position where its values start.
+// The day and the hour that an event line or a read line starts with, and the position after them.
 pub enum Head {
     Start(u32, u32, usize),
     Broken,
@@ -49,20 +49,30 @@ pub enum Placed {
     Broken(usize),
 }
 
-// `event=day,s,e`
-pub(crate) fn event_line(text: &[u8], at: usize) -> Event
-    ensures { λ r. ⌜ r ≡ eventAt (now (text .entry)) at ⌝ }
+// A key and two numbers, with a comma after each.
+pub(crate) fn head_at(text: &[u8], at: usize, key: &[u8]) -> Head
+    ensures { λ r. ⌜ r ≡ headAt (now (text .entry)) at (now (key .entry)) ⌝ }
 {
-    let Step::To(p) = word_at(text, at, b"event=") else {
-        return Event::Broken;
+    let Step::To(p) = word_at(text, at, key) else {
+        return Head::Broken;
     };
     let Number::Is(day, q) = field_at(text, p, b',') else {
+        return Head::Broken;
+    };
+    let Number::Is(hour, next) = field_at(text, q, b',') else {
+        return Head::Broken;
+    };
+    Head::Start(day, hour, next)
+}
+
+// `event=day,s,e`
+pub(crate) fn event_line(text: &[u8], at: usize) -> Event
+    ensures { λ r. ⌜ r ≡ eventLineAt (now (text .entry)) at ⌝ }
+{
+    let Head::Start(day, start, p) = head_at(text, at, b"event=") else {
         return Event::Broken;
     };
-    let Number::Is(start, r) = field_at(text, q, b',') else {
-        return Event::Broken;
-    };
-    let Number::Is(end, next) = field_at(text, r, b'\n') else {
+    let Number::Is(end, next) = field_at(text, p, b'\n') else {
         return Event::Broken;
     };
     Event::Line(day, start, end, next)
@@ -92,27 +102,11 @@ fn value_run(text: &[u8], at: usize) -> Values
     Values::Broken
 }
 
-// `read=day,hour,`
-pub(crate) fn read_head(text: &[u8], at: usize) -> Head
-    ensures { λ r. ⌜ r ≡ headAt (now (text .entry)) at ⌝ }
-{
-    let Step::To(p) = word_at(text, at, b"read=") else {
-        return Head::Broken;
-    };
-    let Number::Is(day, q) = field_at(text, p, b',') else {
-        return Head::Broken;
-    };
-    let Number::Is(hour, from) = field_at(text, q, b',') else {
-        return Head::Broken;
-    };
-    Head::Start(day, hour, from)
-}
-
 // `read=day,hour,v,..`
 fn read_line(text: &[u8], at: usize) -> Reading
-    ensures { λ r. ⌜ r ≡ readAt (now (text .entry)) at ⌝ }
+    ensures { λ r. ⌜ r ≡ readLineAt (now (text .entry)) at ⌝ }
 {
-    let Head::Start(day, hour, from) = read_head(text, at) else {
+    let Head::Start(day, hour, from) = head_at(text, at, b"read=") else {
         return Reading::Broken;
     };
     let Values::Run(count, next) = value_run(text, from) else {

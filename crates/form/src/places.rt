@@ -3,7 +3,7 @@ ghost use mathlib.Core.Bool.{cond};
 ghost use mathlib.Core.Path.{_≡_};
 ghost use Prim.Native.Nat.{_≤_};
 ghost use lib.Dec.{eqb};
-ghost use Rattle.form.specs.Places.{bookDays, placeOf, misplaced};
+ghost use Rattle.form.specs.Places.{bookDays, hourPlace, misplaced};
 use calendar::Days;
 
 // The days of a winter's book; 0 where no winter has that name.
@@ -18,7 +18,7 @@ pub(crate) fn book_days(winter: u32) -> usize
 
 // The place of an hour in the book. A usize holds 24 times any day.
 pub(crate) fn place_of(day: u32, hour: u32) -> usize
-    ensures { λ r. ⌜ r ≡ placeOf day hour ⌝ }
+    ensures { λ r. ⌜ r ≡ hourPlace day hour ⌝ }
     ensures { λ r. ⌜ r ≤ 107374182375 ⌝ }
 {
     24 * (day as usize) + hour as usize

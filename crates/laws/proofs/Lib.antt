@@ -1,6 +1,7 @@
 pub mod Below
 pub mod Every
 pub mod Guards
+pub mod Order
 pub mod ReadBack
 pub mod Refusals
 pub mod Same

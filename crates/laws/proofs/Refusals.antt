@@ -15,6 +15,12 @@ pub kept : (other : Answer) {f : Bool} {a rest : Answer} → f ≡ false → a �
 unfolding refuse
 kept other e q = rw (e, q)
 
+-- what holds of the refusal where the fault is there, and of what comes after it where it is not, holds of the answer
+pub either-way : (P : Answer → Type 0) {a rest : Answer} (f : Bool) → (f ≡ true → P a) → (f ≡ false → P rest) → P (refuse f a rest)
+unfolding refuse
+either-way P true h g = h refl
+either-way P false h g = g refl
+
 pub passed : (n : ℕ) (f : Bool) (rest : Answer) (vs : List ℕ) → refuse f (refusal (suc n)) rest ≡ given vs → (f ≡ false) × (rest ≡ given vs)
 unfolding refuse
 passed n true rest vs e = absurd (omega (arith, ap (λ (a : Answer). a .number) e))

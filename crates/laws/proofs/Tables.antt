@@ -43,6 +43,20 @@ module _ (place : ℕ) where
   none-accepted [] t = refl
   none-accepted (r ∷ rows) t = rw (t .0) (none-accepted rows (t .1))
 
+-- a table row by row: a broken row decides, past one that is kept the rest does, and past the last nothing is refused
+module _ (place : ℕ) where
+  pub row-stops : (r : Row) (rows : List Row) → r .broken ≡ true → refusalAt (r .number) place ≡ firstOf place (r ∷ rows)
+  unfolding firstOf
+  row-stops r rows e = refused _ _ e
+
+  pub row-goes : (r : Row) (rows : List Row) {a : Answer} → r .broken ≡ false → a ≡ firstOf place rows → a ≡ firstOf place (r ∷ rows)
+  unfolding firstOf
+  row-goes r rows e q = kept _ e q
+
+  pub rows-end : accepted ≡ firstOf place []
+  unfolding firstOf
+  rows-end = refl
+
 -- the first broken row: its number is what is answered, at the given place, and no row before it is broken
 pub record BrokenAt (place : ℕ) (rows : List Row) : Type 0 where
   pub number : ℕ

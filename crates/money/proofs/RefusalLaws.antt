@@ -15,8 +15,7 @@ use Rattle.calendar.specs.Winters.{noWinter, days}
 use Rattle.calendar.specs.declared.answers.Days.the-variants.{Are}
 use Rattle.calendar.specs.declared.answers.Days.{Days}
 use Rattle.laws.proofs.Guards.{neither}
-use Rattle.laws.proofs.Refusals.{refused, kept}
-use Rattle.laws.proofs.Tables.{Numbered, accepted-none, none-accepted, not-refused, else-stop, else-go, else-none, Within, within-first, within-else}
+use Rattle.laws.proofs.Tables.{Numbered, row-stops, row-goes, rows-end, accepted-none, none-accepted, not-refused, else-stop, else-go, else-none, Within, within-first, within-else}
 use Rattle.laws.specs.Answer.{Answer}
 use Rattle.laws.specs.Table.{accepted, refusalAt, firstOf, isRefusal}
 use Rattle.schedule.proofs.Accepted.{whole-test, check-accepted}
@@ -28,15 +27,15 @@ use Rattle.money.specs.Refusals.{badBook, badPrice, shortOutput, callRow
 
 module _ (w readings p numbers room : ℕ) where
   pub winter-refused : noWinter w ≡ true → refusalAt 1 0 ≡ firstOf 0 (callRows w readings p numbers room)
-  unfolding firstOf callRows
-  winter-refused e = refused _ _ e
+  unfolding callRows
+  winter-refused e = row-stops _ _ _ e
 
   module _ (r : Days) (count : ℕ) (q : r ≡ Are count) (e : daysPaper r ≡ winterDays w) where
     pub book-refused : (readings ≡ 24 * count → ⊥) → refusalAt 2 0 ≡ firstOf 0 (callRows w readings p numbers room)
-    unfolding firstOf callRows badBook
+    unfolding callRows badBook
     book-refused f =
         let wrong : not (eqb readings (24 * days w)) ≡ true = rw (ne-eqb readings (24 * days w) (λ (x : readings ≡ 24 * days w). f (omega (arith, winter-count w count r q e)))) in
-        kept _ (is-winter w count r q e) (refused _ _ wrong)
+        row-goes _ _ _ (is-winter w count r q e) (row-stops _ _ _ wrong)
 
     module _ (b : readings ≡ 24 * count) where
       right-book : badBook w readings ≡ false
@@ -44,22 +43,22 @@ module _ (w readings p numbers room : ℕ) where
       right-book = rw (eq-eqb readings (24 * days w) (omega (arith, winter-count w count r q e)))
 
       pub price-refused : badPrice p ≡ true → refusalAt 3 0 ≡ firstOf 0 (callRows w readings p numbers room)
-      unfolding firstOf callRows
-      price-refused f = kept _ (is-winter w count r q e) (kept _ right-book (refused _ _ f))
+      unfolding callRows
+      price-refused f = row-goes _ _ _ (is-winter w count r q e) (row-goes _ _ _ right-book (row-stops _ _ _ f))
 
       module _ (m : badPrice p ≡ false) where
         pub list-refused : badList numbers ≡ true → refusalAt 4 0 ≡ firstOf 0 (callRows w readings p numbers room)
-        unfolding firstOf callRows
-        list-refused f = kept _ (is-winter w count r q e) (kept _ right-book (kept _ m (refused _ _ f)))
+        unfolding callRows
+        list-refused f = row-goes _ _ _ (is-winter w count r q e) (row-goes _ _ _ right-book (row-goes _ _ _ m (row-stops _ _ _ f)))
 
         module _ (l : badList numbers ≡ false) where
           pub output-refused : shortOutput numbers room ≡ true → refusalAt 6 0 ≡ firstOf 0 (callRows w readings p numbers room)
-          unfolding firstOf callRows
-          output-refused f = kept _ (is-winter w count r q e) (kept _ right-book (kept _ m (kept _ l (refused _ _ f))))
+          unfolding callRows
+          output-refused f = row-goes _ _ _ (is-winter w count r q e) (row-goes _ _ _ right-book (row-goes _ _ _ m (row-goes _ _ _ l (row-stops _ _ _ f))))
 
           pub none-refused : shortOutput numbers room ≡ false → refusalAt 0 0 ≡ firstOf 0 (callRows w readings p numbers room)
-          unfolding firstOf callRows
-          none-refused f = kept _ (is-winter w count r q e) (kept _ right-book (kept _ m (kept _ l (kept _ f refl))))
+          unfolding callRows
+          none-refused f = row-goes _ _ _ (is-winter w count r q e) (row-goes _ _ _ right-book (row-goes _ _ _ m (row-goes _ _ _ l (row-goes _ _ _ f (rows-end _)))))
 
 -- a call's refusal decides, else that of the notices
 module _ (w readings p : ℕ) (l : List ℕ) (room number : ℕ) (e : refusalAt number 0 ≡ firstOf 0 (callRows w readings p (length l) room)) where

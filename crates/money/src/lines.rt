@@ -17,57 +17,37 @@ pub struct Event {
     pub energy: u64,
 }
 
+// An event of these three numbers.
+fn event_with(code: u64, place: u64, energy: u64) -> Event
+    ensures { λ r. ⌜ r ≡ record { code = code; place = place; energy = energy } ⌝ }
+{
+    Event {
+        code,
+        place,
+        energy,
+    }
+}
+
 // Code, place and energy of a line. The refused cases are never an accepted list's; they hold nothing.
 fn event_of(line: Line) -> Event
     ensures { λ r. ⌜ r ≡ eventOf (linePaper line) ⌝ }
 {
     match line {
-        Line::Settled(energy) => Event {
-            code: 0,
-            place: 0,
-            energy,
-        },
-        Line::FewDays => Event {
-            code: 20,
-            place: 0,
-            energy: 0,
-        },
-        Line::Missing(place) => Event {
-            code: 21,
-            place: place as u64,
-            energy: 0,
-        },
-        Line::TooLarge(place) => Event {
-            code: 22,
-            place: place as u64,
-            energy: 0,
-        },
-        Line::NoWinter => Event {
-            code: 0,
-            place: 0,
-            energy: 0,
-        },
-        Line::BadBook => Event {
-            code: 0,
-            place: 0,
-            energy: 0,
-        },
-        Line::OutsidePeriod => Event {
-            code: 0,
-            place: 0,
-            energy: 0,
-        },
-        Line::BadHours => Event {
-            code: 0,
-            place: 0,
-            energy: 0,
-        },
+        Line::Settled(energy) => event_with(0, 0, energy),
+        Line::FewDays => event_with(20, 0, 0),
+        Line::Missing(place) => event_with(21, place as u64, 0),
+        Line::TooLarge(place) => event_with(22, place as u64, 0),
+        Line::NoWinter => event_with(0, 0, 0),
+        Line::BadBook => event_with(0, 0, 0),
+        Line::OutsidePeriod => event_with(0, 0, 0),
+        Line::BadHours => event_with(0, 0, 0),
     }
 }
 
-// The event that the notice at index k is.
+// The event that the notice at index k is. Its energy is small, whichever notice it is.
 fn event_by(winter: u32, book: &[u32], masks: &[u32; 152], list: &[u32], k: usize) -> Event
     ensures { λ r. ⌜ r ≡ eventBy winter (now (book .entry)) (now (masks .entry)) (now (list .entry)) k ⌝ }
+    ensures { λ r. ⌜ r .energy ≤ 1500000000 ⌝ }
 {
     let n = schedule::notice_at(list, k);
     event_of(energy::settle_event(winter, book, masks, n))

@@ -1,3 +1,4 @@
 pub mod DecimalLaws
 pub mod LineLaws
 pub mod ReadBack
+pub mod LineEnds

@@ -1,23 +1,27 @@
--- Lines as bytes: a row by its numbers, and lines in two parts.
+-- Lines as bytes: the numbers of a line one by one, a line by its key and its numbers, and lines one by one and in two parts.
 -- Assumes nothing.
 use Prim.Native.Nat.{ℕ}
 use mathlib.Core.List.{List, [], _∷_, _++_, append-assoc, append-nil}
 use mathlib.Core.Path.{_≡_, refl, sym, ap, _∙_}
 use Rattle.numerals.specs.Decimal.{field}
-use Rattle.numerals.specs.Lines.{Line, row, lineBytes, bytesOfLines}
+use Rattle.numerals.specs.Lines.{Line, fields, lineBytes, bytesOfLines}
 use Rattle.numerals.specs.Words.{comma, lineEnd}
 
-pub row-last : (n : ℕ) → row (n ∷ []) ≡ field n lineEnd
-unfolding row
-row-last n = refl
+pub fields-last : (n : ℕ) → fields (n ∷ []) ≡ field n lineEnd
+unfolding fields
+fields-last n = refl
 
-pub row-more : (n m : ℕ) (ns : List ℕ) → row (n ∷ m ∷ ns) ≡ field n comma ++ row (m ∷ ns)
-unfolding row
-row-more n m ns = refl
+pub fields-more : (n m : ℕ) (ns : List ℕ) → fields (n ∷ m ∷ ns) ≡ field n comma ++ fields (m ∷ ns)
+unfolding fields
+fields-more n m ns = refl
 
-pub line-is : (x : Line) → lineBytes x ≡ x .key ++ row (x .numbers)
+pub line-is : (x : Line) → lineBytes x ≡ x .key ++ fields (x .numbers)
 unfolding lineBytes
 line-is x = refl
+
+-- a line of one number
+pub line-one : (key : List ℕ) (n : ℕ) → lineBytes (record { key = key; numbers = n ∷ [] }) ≡ key ++ field n lineEnd
+line-one key n = rw (line-is, fields-last)
 
 pub lines-none : bytesOfLines [] ≡ []
 unfolding bytesOfLines

@@ -14,14 +14,14 @@ abbrev pub line : String → List ℕ → Line
 line key numbers = record { key = bytesOf key; numbers = numbers }
 
 -- the numbers of a line, each ended by a comma and the last by byte 10; every line has at least one
-unfoldable pub row : List ℕ → List ℕ
-row [] = []
-row (n ∷ []) = field n lineEnd
-row (n ∷ m ∷ ns) = field n comma ++ row (m ∷ ns)
+unfoldable pub fields : List ℕ → List ℕ
+fields [] = []
+fields (n ∷ []) = field n lineEnd
+fields (n ∷ m ∷ ns) = field n comma ++ fields (m ∷ ns)
 
 -- a line as bytes
 unfoldable pub lineBytes : Line → List ℕ
-lineBytes x = x .key ++ row (x .numbers)
+lineBytes x = x .key ++ fields (x .numbers)
 
 -- lines as bytes, one after the other
 unfoldable pub bytesOfLines : List Line → List ℕ

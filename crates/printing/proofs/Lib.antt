@@ -1,4 +1,3 @@
 pub mod PutLaws
 pub mod RoomLaws
-pub mod Sample
 pub mod Shows

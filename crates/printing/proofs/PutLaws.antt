@@ -9,8 +9,8 @@ use lib.ListN.{length, set, getD, drop, length-append, drop-of-length-le}
 use lib.Seq.{sets, length-sets, drop-cons}
 use Rattle.numerals.specs.Decimal.{digitByte, decimal, field}
 use Rattle.numerals.specs.Lines.{Line, lineBytes, bytesOfLines}
-use Rattle.numerals.proofs.DecimalLaws.{decimal-one, decimal-more}
-use Rattle.numerals.proofs.LineLaws.{lines-one, lines-more, lines-append}
+use Rattle.numerals.proofs.DecimalLaws.{decimal-one, decimal-more, field-is}
+use Rattle.numerals.proofs.LineLaws.{lines-none, lines-one, lines-more, lines-append}
 use Rattle.printing.specs.Put.{Put}
 
 -- stores in two parts
@@ -46,8 +46,7 @@ pub put-digits : {l m : List ℕ} {i n p : ℕ} → 10 ≤ n → Put l i (decima
 put-digits {m = m} {n = n} {p = p} h a = rw (decimal-more n h) (put-then a (put-byte m p (digitByte (n % 10))))
 
 pub put-end : {l m : List ℕ} {i p : ℕ} (n end : ℕ) → Put l i (decimal n) p m → Put l i (field n end) (p + 1) (set m p end)
-unfolding field
-put-end {m = m} {p = p} n end a = put-then a (put-byte m p end)
+put-end {m = m} {p = p} n end a = rw (field-is n end) (put-then a (put-byte m p end))
 
 -- the bytes of a key that are still to come: one more, and none
 pub key-next : (l key : List ℕ) (i k : ℕ) → k < length key → sets l i (drop k key) ≡ sets (set l i (getD key k 0)) (i + 1) (drop (k + 1) key)
@@ -56,7 +55,10 @@ key-next l key i k h = rw (drop-cons key k 0 h, add-one i, add-one k)
 pub key-done : (l key : List ℕ) (i k : ℕ) → length key ≤ k → sets l i (drop k key) ≡ l
 key-done l key i k h = rw (drop-of-length-le key h)
 
--- lines
+-- lines: none, one, one and more behind it, and some and more behind them
+pub put-none : (l : List ℕ) (i : ℕ) → Put l i (bytesOfLines []) i l
+put-none l i = rw lines-none (record { ends = omega arith; holds = refl })
+
 module _ {l m : List ℕ} {i p : ℕ} (x : Line) (a : Put l i (lineBytes x) p m) where
   pub put-last : Put l i (bytesOfLines (x ∷ [])) p m
   put-last = rw (lines-one x) a

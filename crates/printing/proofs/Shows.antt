@@ -10,8 +10,8 @@ use native.Mathlib.Nat.{eq-or-lt-of-le, le-of-suc-le-suc}
 use native.Mathlib.Omega.{arith}
 use lib.ListN.{length, take, drop, length-append}
 use lib.Seq.{take-at, drop-at}
-use Rattle.numerals.specs.Numbers.{isDigit, endsNumber, numbersIn, numbersOfLines, plainKey, plainKeys}
-use Rattle.numerals.proofs.ReadBack.{read-back, plain-append, numbers-append}
+use Rattle.numerals.specs.Numbers.{numbersIn, numbersOfLines, plainKeys}
+use Rattle.numerals.proofs.ReadBack.{read-back, above-plain, plain-append, numbers-none, numbers-one, numbers-more, numbers-append}
 use Rattle.schedule.specs.Notices.{countOf}
 use Rattle.printing.specs.Room.{printed, printedCount}
 use Rattle.printing.specs.Sheet.{refusedLines, refusedBytes, noticeLine, noticeLines, statementLines, statementBytes}
@@ -23,8 +23,8 @@ shown bytes out e = rw e (take-at bytes (drop (length bytes) out) (length bytes)
 
 -- a refused text
 pub refused-numbers : (number place : ℕ) → numbersIn (refusedBytes number place) ≡ number ∷ place ∷ []
-unfolding refusedLines plainKeys plainKey isDigit endsNumber numbersOfLines
-refused-numbers number place = read-back (refusedLines number place) refl
+unfolding refusedLines
+refused-numbers number place = read-back (refusedLines number place) (above-plain _ refl) ∙ numbers-one _
 
 pub refused-same : (n m p q : ℕ) → refusedBytes n p ≡ refusedBytes m q → (n ≡ m) × (p ≡ q)
 refused-same n m p q e =
@@ -37,30 +37,31 @@ shownNumbers w p l out energy cents = w ∷ p ∷ countOf l ∷ (numbersOfLines 
 
 module _ (l out : List ℕ) where
   lines-plain : (k : ℕ) → plainKeys (noticeLines l out k) ≡ true
-  unfolding noticeLines noticeLine plainKeys plainKey isDigit endsNumber
-  lines-plain zero = refl
-  lines-plain (suc k) = plain-append (noticeLines l out k) (noticeLine l out k ∷ []) (lines-plain k) refl
+  unfolding noticeLines noticeLine
+  lines-plain zero = above-plain [] refl
+  lines-plain (suc k) = plain-append (noticeLines l out k) _ (lines-plain k) (above-plain (noticeLine l out k ∷ []) refl)
 
   -- one notice more has its seven numbers behind those before
   seven-more : (k : ℕ) → numbersOfLines (noticeLines l out (suc k)) ≡ numbersOfLines (noticeLines l out k) ++ noticeLine l out k .numbers
-  unfolding noticeLines noticeLine numbersOfLines
-  seven-more k = numbers-append (noticeLines l out k) (noticeLine l out k ∷ [])
+  unfolding noticeLines
+  seven-more k = numbers-append (noticeLines l out k) (noticeLine l out k ∷ []) ∙ rw (numbers-one (noticeLine l out k))
 
   sevens-long : (k : ℕ) → length (numbersOfLines (noticeLines l out k)) ≡ 7 * k
-  unfolding noticeLines noticeLine numbersOfLines
-  sevens-long zero = refl
+  unfolding noticeLines noticeLine
+  sevens-long zero = ap length numbers-none
   sevens-long (suc k) = rw (seven-more k) (simp length-append (omega (arith, sevens-long k)))
 
 module _ (w p : ℕ) (l out : List ℕ) (energy cents : ℕ) where
   statement-plain : plainKeys (statementLines w p l out energy cents) ≡ true
-  unfolding statementLines plainKeys plainKey isDigit endsNumber
-  statement-plain = plain-append (noticeLines l out (countOf l)) _ (lines-plain l out (countOf l)) refl
+  unfolding statementLines
+  statement-plain =
+      plain-append (_ ∷ _ ∷ _ ∷ []) _ (above-plain _ refl)
+      (plain-append (noticeLines l out (countOf l)) _ (lines-plain l out (countOf l)) (above-plain _ refl))
 
   pub statement-numbers : numbersIn (statementBytes w p l out energy cents) ≡ shownNumbers w p l out energy cents
-  unfolding statementLines numbersOfLines
+  unfolding statementLines
   statement-numbers =
-      read-back (statementLines w p l out energy cents) statement-plain
-      ∙ ap (λ (ns : List ℕ). w ∷ p ∷ countOf l ∷ ns) (numbers-append (noticeLines l out (countOf l)) _)
+      read-back (statementLines w p l out energy cents) statement-plain ∙ simp (numbers-one, numbers-more, numbers-append)
 
 -- two lists of two parts, the first parts of one length
 parts : (xs ys us vs : List ℕ) → length xs ≡ length us → xs ++ ys ≡ us ++ vs → (xs ≡ us) × (ys ≡ vs)

@@ -4,7 +4,7 @@ use Prim.Native.Nat.{ℕ, zero, suc}
 use mathlib.Core.List.{List, [], _∷_, _++_}
 use Rattle.numerals.specs.Lines.{Line, line, bytesOfLines}
 use Rattle.schedule.specs.Notices.{countOf, noticeAt}
-use Rattle.printing.specs.Settled.{settledIn, lineOf}
+use Rattle.printing.specs.Settled.{settledIn, lineFor}
 
 -- "A refused text prints only the line `refused=number,place`, ended the same way."
 unfoldable pub refusedLines : ℕ → ℕ → List Line
@@ -12,7 +12,7 @@ refusedLines number place = line "refused=" (number ∷ place ∷ []) ∷ []
 
 -- the line of the notice at index k, from the list and the settlement's output
 unfoldable pub noticeLine : List ℕ → List ℕ → ℕ → Line
-noticeLine l out k = lineOf (noticeAt l k) (settledIn out k)
+noticeLine l out k = lineFor (noticeAt l k) (settledIn out k)
 
 -- "one `line=` for each notice", of the first k
 unfoldable pub noticeLines : List ℕ → List ℕ → ℕ → List Line

@@ -4,10 +4,10 @@ ghost use mathlib.Core.List.{[], _∷_, _++_};
 ghost use Prim.Native.Nat.{_+_, _*_, _≤_};
 ghost use lib.ListN.{length};
 ghost use Rattle.numerals.specs.Decimal.{field};
-ghost use Rattle.numerals.specs.Lines.{row, lineBytes, bytesOfLines};
+ghost use Rattle.numerals.specs.Lines.{fields, lineBytes, bytesOfLines};
 ghost use Rattle.numerals.specs.Words.{comma};
 ghost use Rattle.printing.specs.Put.{Put};
-ghost use Rattle.printing.specs.Settled.{settledIn, lineOf};
+ghost use Rattle.printing.specs.Settled.{settledIn, lineFor};
 ghost use Rattle.printing.specs.Sheet.{noticeLines};
 use crate::bytes::put_field;
 use crate::bytes::put_key;
@@ -53,7 +53,7 @@ fn put_notice(out: &mut [u8], at: usize, notice: Notice) -> usize
 // Puts the four numbers that a settlement holds of a notice, and ends the line.
 fn put_settled(out: &mut [u8], at: usize, settled: Settled) -> usize
     requires { ⌜ at + 84 ≤ length (now out) ⌝ }
-    ensures { λ r. ⌜ Put (now (out .entry)) at (row (settled .code ∷ settled .place ∷ settled .energy ∷ settled .cents ∷ [])) r (now (out .exit)) ⌝ }
+    ensures { λ r. ⌜ Put (now (out .entry)) at (fields (settled .code ∷ settled .place ∷ settled .energy ∷ settled .cents ∷ [])) r (now (out .exit)) ⌝ }
     ensures { λ r. ⌜ r ≤ at + 84 ⌝ }
 {
     let place = put_field(out, at, settled.code, b',');
@@ -65,7 +65,7 @@ fn put_settled(out: &mut [u8], at: usize, settled: Settled) -> usize
 // Puts the line of a notice: key, notice and settlement.
 fn put_line(out: &mut [u8], at: usize, notice: Notice, settled: Settled) -> usize
     requires { ⌜ at + 152 ≤ length (now out) ⌝ }
-    ensures { λ r. ⌜ Put (now (out .entry)) at (lineBytes (lineOf notice settled)) r (now (out .exit)) ⌝ }
+    ensures { λ r. ⌜ Put (now (out .entry)) at (lineBytes (lineFor notice settled)) r (now (out .exit)) ⌝ }
     ensures { λ r. ⌜ r ≤ at + 152 ⌝ }
 {
     let day = put_key(out, at, b"line=");

@@ -1,15 +1,14 @@
 -- Bounds of the list check's answer, and what it makes of a list that is not whole triples or more than 100.
 -- Assumes nothing.
 use Prim.Native.Nat.{ℕ, zero, suc, _+_, _≤_}
-use mathlib.Core.Bool.{Bool, true, false}
+use mathlib.Core.Bool.{true}
 use mathlib.Core.List.{List}
 use mathlib.Core.Path.{_≡_, refl, sym, subst, _∙_}
 use native.Mathlib.Omega.{arith}
 use lib.ListN.{length}
 use Rattle.calendar.specs.Winters.{noWinter}
-use Rattle.laws.proofs.Refusals.{refused}
+use Rattle.laws.proofs.Refusals.{refused, either-way}
 use Rattle.laws.proofs.Tables.{Within, within-refuse, within-else, within-first}
-use Rattle.laws.specs.Answer.{refuse}
 use Rattle.laws.specs.Table.{refusalAt}
 use Rattle.schedule.specs.ListCheck.{ownRows, listRows, noticeRows, noticeAnswer, sofarAt, answerAt, fromNotice, badList, listAnswer, namedAnswer, checkAnswer}
 use Rattle.schedule.specs.Notices.{countOf, noticeAt}
@@ -35,12 +34,10 @@ module _ (w : ℕ) (l : List ℕ) where
       within-else 18 p (answerAt w f l k) (fromNotice w f l left (suc k)) (answer-within f p k (omega arith)) (from-within f p left (suc k) (omega arith))
 
   list-within : (f : Figures) → Within 18 100 (listAnswer w f l)
-  unfolding listAnswer refuse
-  list-within f = by (badList (length l)) refl
-    where
-      by : (b : Bool) → badList (length l) ≡ b → Within 18 100 (refuse b (refusalAt 4 0) (fromNotice w f l (countOf l) 0))
-      by true q = (omega arith, omega arith)
-      by false q = from-within f 100 (countOf l) 0 (omega (arith, list-fits (length l) q .1))
+  unfolding listAnswer
+  list-within f =
+      either-way (Within 18 100) (badList (length l)) (λ q. (omega arith, omega arith))
+      (λ q. from-within f 100 (countOf l) 0 (omega (arith, list-fits (length l) q .1)))
 
   -- no number is above 18, and no place above 100
   pub check-within : (q : ℕ) → Within 18 100 (checkAnswer w q l)

@@ -10,8 +10,9 @@ use native.Mathlib.Nat.{eq-or-lt-of-le, zero-add}
 use native.Mathlib.Omega.{arith}
 use lib.ListN.{length}
 use Rattle.calendar.specs.Winters.{noWinter}
+use Rattle.laws.proofs.Refusals.{either-way}
 use Rattle.laws.proofs.Tables.{BrokenAt, first-broken, else-stop, else-go}
-use Rattle.laws.specs.Answer.{Answer, refuse}
+use Rattle.laws.specs.Answer.{Answer}
 use Rattle.laws.specs.Table.{refusalAt, isRefusal, orElse}
 use Rattle.schedule.specs.ListCheck.{noticeRows, noticeAnswer, sofarAt, answerAt, fromNotice, badList, listAnswer, namedAnswer, checkAnswer}
 use Rattle.schedule.specs.Notices.{countOf, noticeAt}
@@ -76,23 +77,22 @@ pub data WhyRefused (w q : ℕ) (l : List ℕ) (a : Answer) : Type 0 where
   at-notice : (p : Profile) → noWinter w ≡ false → named q ≡ Is p → badList (length l) ≡ false → FirstAt w (figuresOf p) l 0 (countOf l) a → WhyRefused w q l a
 
 module _ (w q : ℕ) (l : List ℕ) (a : Answer) (e : isRefusal a ≡ true) where
-  by-list : (p : Profile) → noWinter w ≡ false → named q ≡ Is p → (b : Bool) → badList (length l) ≡ b
-      → a ≡ refuse b (refusalAt 4 0) (fromNotice w (figuresOf p) l (countOf l) 0) → WhyRefused w q l a
-  unfolding refuse
-  by-list p v n true b s = bad-list p v n b s
-  by-list p v n false b s =
-      at-notice p v n b (rw s (rw (zero-add (countOf l)) at (first-from w (figuresOf p) l (countOf l) 0 (ap isRefusal (sym s) ∙ e))))
+  abbrev Why : Answer → Type 0
+  Why b = a ≡ b → WhyRefused w q l a
 
-  by-profile : noWinter w ≡ false → (x : Named) → named q ≡ x → a ≡ namedAnswer w x l → WhyRefused w q l a
+  by-list : (p : Profile) → noWinter w ≡ false → named q ≡ Is p → Why (listAnswer w (figuresOf p) l)
   unfolding listAnswer
-  by-profile v (Is p) n s = by-list p v n (badList (length l)) refl s
+  by-list p v n =
+      either-way Why (badList (length l)) (λ b s. bad-list p v n b s)
+      (λ b s. at-notice p v n b (rw s (rw (zero-add (countOf l)) at (first-from w (figuresOf p) l (countOf l) 0 (ap isRefusal (sym s) ∙ e)))))
+
+  by-profile : noWinter w ≡ false → (x : Named) → named q ≡ x → Why (namedAnswer w x l)
+  by-profile v (Is p) n s = by-list p v n s
   by-profile v NoProfile n s = no-profile v n s
 
-  by-winter : (b : Bool) → noWinter w ≡ b → a ≡ refuse b (refusalAt 1 0) (namedAnswer w (named q) l) → WhyRefused w q l a
-  unfolding refuse
-  by-winter true v s = no-winter v s
-  by-winter false v s = by-profile v (named q) refl s
+  by-winter : Why (checkAnswer w q l)
+  unfolding checkAnswer
+  by-winter = either-way Why (noWinter w) (λ v s. no-winter v s) (λ v s. by-profile v (named q) refl s)
 
 pub first-refusal : (w q : ℕ) (l : List ℕ) → isRefusal (checkAnswer w q l) ≡ true → WhyRefused w q l (checkAnswer w q l)
-unfolding checkAnswer
-first-refusal w q l e = by-winter w q l (checkAnswer w q l) e (noWinter w) refl refl
+first-refusal w q l e = by-winter w q l (checkAnswer w q l) e refl

@@ -16,7 +16,7 @@ use Rattle.calendar.specs.Winters.{days, inPeriod}
 use Rattle.laws.proofs.Guards.{both, neither}
 use Rattle.schedule.specs.Notices.{hoursOf}
 use Rattle.schedule.specs.Profiles.{morningStart, eveningStart, eveningEnd}
-use Rattle.schedule.specs.Rules.{outsidePeriod, excludedDay, barredWeekend, outsideBands, badHours, badLength, startsBefore, sameBand, overLimit}
+use Rattle.schedule.specs.Rules.{outsidePeriod, onExcludedDay, barredWeekend, outsideBands, badHours, badLength, startsBefore, sameBand, overLimit}
 use Rattle.schedule.specs.declared.notices.Notice.{Notice}
 use Rattle.schedule.specs.declared.profiles.Figures.{Figures}
 use Rattle.schedule.specs.declared.rules.Sofar.{Sofar}
@@ -85,8 +85,8 @@ module _ (w : ℕ) (f : Figures) (n : Notice) where
   unfolding outsidePeriod
   period-iff = (λ e. period-day w (n .day) .0 (not-false (inPeriod w (n .day)) e), λ r. rw (period-day w (n .day) .1 r))
 
-  pub open-iff : (excludedDay w n ≡ false) ↔ (excluded w (n .day) ≡ false)
-  unfolding excludedDay
+  pub open-iff : (onExcludedDay w n ≡ false) ↔ (excluded w (n .day) ≡ false)
+  unfolding onExcludedDay
   open-iff = (λ e. e, λ e. e)
 
   pub week-iff : (barredWeekend f w n ≡ false) ↔ (f .weekends ≡ false → weekend w (n .day) ≡ false)

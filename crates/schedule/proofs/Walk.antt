@@ -15,7 +15,7 @@ use Rattle.laws.specs.Answer.{Answer}
 use Rattle.laws.specs.Table.{accepted, firstOf, isRefusal, orElse}
 use Rattle.schedule.specs.ListCheck.{ownRows, listRows, noticeRows, noticeAnswer, nothingBefore, afterNotice, sofarAt, answerAt, fromNotice, badList}
 use Rattle.schedule.specs.Notices.{noticeAt, hoursOf, hoursTo}
-use Rattle.schedule.specs.Rules.{outsidePeriod, excludedDay, barredWeekend, badHours, badLength, startsBefore, sameBand, overLimit}
+use Rattle.schedule.specs.Rules.{outsidePeriod, onExcludedDay, barredWeekend, badHours, badLength, startsBefore, sameBand, overLimit}
 use Rattle.schedule.specs.Sane.{Sane}
 use Rattle.schedule.specs.declared.notices.Notice.{Notice}
 use Rattle.schedule.specs.declared.profiles.Figures.{Figures}
@@ -35,7 +35,7 @@ notice-numbered w f so n =
 -- the rules that a notice has passed, by name
 pub record Passed (w : ℕ) (f : Figures) (so : Sofar) (n : Notice) : Type 0 where
   pub period : outsidePeriod w n ≡ false
-  pub open-day : excludedDay w n ≡ false
+  pub open-day : onExcludedDay w n ≡ false
   pub week : barredWeekend f w n ≡ false
   pub hours : badHours f n ≡ false
   pub long : badLength f n ≡ false

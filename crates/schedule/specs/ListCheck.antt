@@ -12,7 +12,7 @@ use Rattle.laws.specs.Answer.{Answer, refuse}
 use Rattle.laws.specs.Table.{accepted, refusalAt, Row, row, firstOf, orElse}
 use Rattle.schedule.specs.Notices.{countOf, noNotice, noticeAt, hoursOf, hoursTo}
 use Rattle.schedule.specs.Profiles.{figuresOf, named}
-use Rattle.schedule.specs.Rules.{outsidePeriod, excludedDay, barredWeekend, badHours, badLength, startsBefore, sameBand, overLimit}
+use Rattle.schedule.specs.Rules.{outsidePeriod, onExcludedDay, barredWeekend, badHours, badLength, startsBefore, sameBand, overLimit}
 use Rattle.schedule.specs.declared.notices.Notice.{Notice}
 use Rattle.schedule.specs.declared.profiles.Figures.{Figures}
 use Rattle.schedule.specs.declared.profiles.Named.the-variants.{Is, NoProfile}
@@ -23,7 +23,7 @@ use Rattle.schedule.specs.declared.rules.Sofar.{Sofar}
 unfoldable pub ownRows : ℕ → Figures → Notice → List Row
 ownRows w f n =
     row 10 (outsidePeriod w n)
-    ∷ row 11 (excludedDay w n)
+    ∷ row 11 (onExcludedDay w n)
     ∷ row 12 (barredWeekend f w n)
     ∷ row 13 (badHours f n)
     ∷ row 14 (badLength f n)

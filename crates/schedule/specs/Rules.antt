@@ -17,8 +17,8 @@ unfoldable pub outsidePeriod : ℕ → Notice → Bool
 outsidePeriod w n = not (inPeriod w (n .day))
 
 -- "11: excluded day"
-unfoldable pub excludedDay : ℕ → Notice → Bool
-excludedDay w n = excluded w (n .day)
+unfoldable pub onExcludedDay : ℕ → Notice → Bool
+onExcludedDay w n = excluded w (n .day)
 
 -- "12: weekend under profile 2", by the profile's figures: a weekend where it has none
 unfoldable pub barredWeekend : Figures → ℕ → Notice → Bool

@@ -1,6 +1,6 @@
 // The rules of a notice, each a fault test: true where the rule is broken. They go by the figures and never by the profile.
 ghost use mathlib.Core.Path.{_≡_};
-ghost use Rattle.schedule.specs.Rules.{outsidePeriod, excludedDay, barredWeekend, outsideBands, badHours, badLength, startsBefore, sameBand, overLimit};
+ghost use Rattle.schedule.specs.Rules.{outsidePeriod, onExcludedDay, barredWeekend, outsideBands, badHours, badLength, startsBefore, sameBand, overLimit};
 use crate::notices::Notice;
 use crate::notices::hours_of;
 use crate::profiles::Figures;
@@ -21,7 +21,7 @@ pub(crate) fn outside_period(winter: u32, n: Notice) -> bool
 
 // 11: an excluded day.
 pub(crate) fn excluded_day(winter: u32, n: Notice) -> bool
-    ensures { λ r. ⌜ r ≡ excludedDay winter n ⌝ }
+    ensures { λ r. ⌜ r ≡ onExcludedDay winter n ⌝ }
 {
     calendar::is_excluded(winter, n.day)
 }

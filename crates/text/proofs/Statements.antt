@@ -13,6 +13,8 @@ use Rattle.calendar.specs.Winters.{noWinter, days}
 use Rattle.energy.specs.Line.{eventAnswer}
 use Rattle.event_hours.specs.Days.{masksOf}
 use Rattle.form.proofs.Converse.{Held, form-written}
+use Rattle.form.proofs.FirstBroken.{FirstBroken, broken-first}
+use Rattle.form.proofs.PlaceLaws.{book-days}
 use Rattle.form.proofs.RoundTrip.{text-read}
 use Rattle.form.specs.Document.{Document, textOf, Writable, noticesIn, misplacedLineIn, bookIn}
 use Rattle.form.specs.Form.{formOf}
@@ -40,14 +42,15 @@ documentBytes d =
 own-days : (d : Document) (l book : List ℕ)
     → valuesBytes (d .winter) (d .price) l (misplacedLineIn (bookDays (d .winter)) d) book
     ≡ valuesBytes (d .winter) (d .price) l (misplacedLineIn (days (d .winter)) d) book
-unfolding valuesBytes bookDays
+unfolding valuesBytes
 own-days d l book =
-    by (noWinter (d .winter)) (days (d .winter))
+    by (noWinter (d .winter)) (book-days (d .winter))
     (λ (n : ℕ). cond (eqb (misplacedLineIn n d) 0) (settledBytes (d .winter) book (d .price) l) (refusedBytes 31 (misplacedLineIn n d)))
   where
-    by : (b : Bool) (n : ℕ) (rest : ℕ → List ℕ) → cond b (refusedBytes 1 0) (rest (cond b 0 n)) ≡ cond b (refusedBytes 1 0) (rest n)
-    by true n rest = refl
-    by false n rest = refl
+    by : {m n : ℕ} (b : Bool) → (b ≡ false → m ≡ n) → (rest : ℕ → List ℕ)
+        → cond b (refusedBytes 1 0) (rest m) ≡ cond b (refusedBytes 1 0) (rest n)
+    by true same rest = refl
+    by false same rest = ap rest (same refl)
 
 -- THE VALUES OF A TEXT ARE THE ONES SETTLED: those that it is the text of
 pub text-settled : (d : Document) → Writable d → length (textOf d) ≤ mostBytes → statementOf (textOf d) ≡ documentBytes d
@@ -58,9 +61,10 @@ text-settled d ok h =
     rw (le-ltb mostBytes (length (textOf d)) h, read .0, says .notices, says .book (noReadings (d .winter)))
     (own-days d (noticesIn (d .events)) (bookIn (d .reads) (noReadings (d .winter))))
 
--- and a text of no values is refused with 30
+-- and a text of no values is refused with 30 and the first line that breaks the form
 pub record Refused30 (s : List ℕ) : Type 0 where
   pub line : ℕ
+  pub first : FirstBroken s line
   pub is : statementOf s ≡ refusedBytes 30 line
 
 pub no-values : (s : List ℕ) → length s ≤ mostBytes → (Held s → ⊥) → Refused30 s
@@ -68,7 +72,7 @@ unfolding statementOf formBytes
 no-values s h none = by (formOf s) refl
   where
     by : (f : Form) → formOf s ≡ f → Refused30 s
-    by (form.Broken line) e = record { line = line; is = rw (le-ltb mostBytes (length s) h, e) }
+    by (form.Broken line) e = record { line = line; first = broken-first s line e; is = rw (le-ltb mostBytes (length s) h, e) }
     by (form.Whole f) e = absurd (none (form-written s f e))
 
 -- an accepted settlement, printed

@@ -8,7 +8,7 @@ use native.Mathlib.Numerals.{add-one}
 use native.Mathlib.Omega.{arith}
 use lib.ListN.{length, drop, set, length-append, length-drop, drop-of-length-le}
 use Rattle.laws.proofs.Stores.{sets-front}
-use Rattle.wire.specs.Bytes.{numberAt, numbersTo, readCount, numbersRead}
+use Rattle.wire.specs.Bytes.{fourBytesAt, numbersTo, readCount, numbersRead}
 
 module _ (bytes : List ℕ) where
   pub numbers-long : (k : ℕ) → length (numbersTo bytes k) ≡ k
@@ -23,11 +23,11 @@ module _ (bytes : List ℕ) where
     numbers-none = refl
 
     -- one store more
-    pub numbers-next : (k : ℕ) {filled : List ℕ} {v : ℕ} → k < length numbers → filled ≡ numbersTo bytes k ++ drop k numbers → v ≡ numberAt bytes (4 * k)
+    pub numbers-next : (k : ℕ) {filled : List ℕ} {v : ℕ} → k < length numbers → filled ≡ numbersTo bytes k ++ drop k numbers → v ≡ fourBytesAt bytes (4 * k)
         → set filled k v ≡ numbersTo bytes (k + 1) ++ drop (k + 1) numbers
     unfolding numbersTo
     numbers-next k h e n =
-        rw (e, n, add-one k) (sets-front (numbersTo bytes k) numbers (numberAt bytes (4 * k) ∷ []) k (numbers-long k) (omega arith) ∙ rw add-one)
+        rw (e, n, add-one k) (sets-front (numbersTo bytes k) numbers (fourBytesAt bytes (4 * k) ∷ []) k (numbers-long k) (omega arith) ∙ rw add-one)
 
     -- all there are bytes and room for
     pub numbers-all : (k : ℕ) {filled : List ℕ} → filled ≡ numbersTo bytes k ++ drop k numbers → k ≡ readCount bytes numbers → filled ≡ numbersRead bytes numbers

@@ -9,17 +9,17 @@ use native.Mathlib.Nat.{add-assoc, add-zero, eq-or-lt-of-le, le-of-suc-le-suc}
 use native.Mathlib.Omega.{arith}
 use lib.ListN.{length, getD, drop, List·getD-append}
 use lib.Seq.{getD-append-add}
-use Rattle.wire.specs.Bytes.{numberAt, eightBytes, bytesTo, writtenCount, bytesWritten}
+use Rattle.wire.specs.Bytes.{fourBytesAt, eightBytes, bytesTo, writtenCount, bytesWritten}
 use Rattle.wire.proofs.WriteLaws.{bytes-long}
 
 -- a number of four bytes has 32 bits
-pub number-small : (bytes : List ℕ) (i : ℕ) → ((k : ℕ) → getD bytes k 0 < 2 ^ 8) → numberAt bytes i < 2 ^ 32
-unfolding numberAt
+pub number-small : (bytes : List ℕ) (i : ℕ) → ((k : ℕ) → getD bytes k 0 < 2 ^ 8) → fourBytesAt bytes i < 2 ^ 32
+unfolding fourBytesAt
 number-small bytes i small = omega (arith, small i, small (i + 1), small (i + 2), small (i + 3))
 
 -- the number whose low half is at index i, and its high half behind it
 abbrev pub halvesAt : List ℕ → ℕ → ℕ
-halvesAt bytes i = numberAt bytes i + 2 ^ 32 * numberAt bytes (i + 4)
+halvesAt bytes i = fourBytesAt bytes i + 2 ^ 32 * fourBytesAt bytes (i + 4)
 
 -- a number from its digits to the base 256: each q is what is left of it without the digits below
 module _ (a0 a1 a2 a3 a4 a5 a6 a7 : ℕ) where
@@ -29,7 +29,7 @@ module _ (a0 a1 a2 a3 a4 a5 a6 a7 : ℕ) where
   from-digits e0 e1 e2 e3 e4 e5 e6 = omega arith
 
 pub eight-back : (v : ℕ) → v < 2 ^ 64 → halvesAt (eightBytes v) 0 ≡ v
-unfolding numberAt eightBytes
+unfolding fourBytesAt eightBytes
 eight-back v h =
     from-digits
     (v % 2 ^ 8)
@@ -57,8 +57,8 @@ eight-back v h =
 -- in bytes of two parts
 
 module _ (xs ys : List ℕ) where
-  number-front : (i : ℕ) → i + 4 ≤ length xs → numberAt (xs ++ ys) i ≡ numberAt xs i
-  unfolding numberAt
+  number-front : (i : ℕ) → i + 4 ≤ length xs → fourBytesAt (xs ++ ys) i ≡ fourBytesAt xs i
+  unfolding fourBytesAt
   number-front i h =
       let at0 = List·getD-append xs ys 0 i (omega arith) in
       let at1 = List·getD-append xs ys 0 (i + 1) (omega arith) in
@@ -66,8 +66,8 @@ module _ (xs ys : List ℕ) where
       let at3 = List·getD-append xs ys 0 (i + 3) (omega arith) in
       rw (at0, at1, at2, at3)
 
-  number-behind : (n i : ℕ) → length xs ≡ n → numberAt (xs ++ ys) (n + i) ≡ numberAt ys i
-  unfolding numberAt
+  number-behind : (n i : ℕ) → length xs ≡ n → fourBytesAt (xs ++ ys) (n + i) ≡ fourBytesAt ys i
+  unfolding fourBytesAt
   number-behind n i e = rw (← e) (simp (add-assoc, getD-append-add))
 
   halves-front : (i : ℕ) → i + 8 ≤ length xs → halvesAt (xs ++ ys) i ≡ halvesAt xs i

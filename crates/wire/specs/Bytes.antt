@@ -7,13 +7,13 @@ use mathlib.Core.List.{List, [], _∷_, _++_}
 use lib.ListN.{length, getD, drop}
 
 -- the 32-bit number in the four bytes from index i on, the lowest byte first
-unfoldable pub numberAt : List ℕ → ℕ → ℕ
-numberAt bytes i = getD bytes i 0 + 2 ^ 8 * getD bytes (i + 1) 0 + 2 ^ 16 * getD bytes (i + 2) 0 + 2 ^ 24 * getD bytes (i + 3) 0
+unfoldable pub fourBytesAt : List ℕ → ℕ → ℕ
+fourBytesAt bytes i = getD bytes i 0 + 2 ^ 8 * getD bytes (i + 1) 0 + 2 ^ 16 * getD bytes (i + 2) 0 + 2 ^ 24 * getD bytes (i + 3) 0
 
 -- the first k numbers of some bytes
 unfoldable pub numbersTo : List ℕ → ℕ → List ℕ
 numbersTo bytes zero = []
-numbersTo bytes (suc k) = numbersTo bytes k ++ (numberAt bytes (4 * k) ∷ [])
+numbersTo bytes (suc k) = numbersTo bytes k ++ (fourBytesAt bytes (4 * k) ∷ [])
 
 -- how many numbers are read: as many as the bytes hold whole and there is room for
 abbrev pub readCount : List ℕ → List ℕ → ℕ

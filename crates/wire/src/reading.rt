@@ -2,7 +2,7 @@
 ghost use mathlib.Core.Path.{_≡_};
 ghost use Prim.Native.Nat.{_+_, _≤_};
 ghost use lib.ListN.{length};
-ghost use Rattle.wire.specs.Bytes.{numberAt, numbersRead};
+ghost use Rattle.wire.specs.Bytes.{fourBytesAt, numbersRead};
 use crate::counts::smaller;
 
 // A byte as a number with room for three more.
@@ -15,7 +15,7 @@ fn wide(byte: u8) -> u32
 // The number in the four bytes from index i on, the lowest first.
 fn number_at(bytes: &[u8], i: usize) -> u32
     requires { ⌜ i + 4 ≤ length (now bytes) ⌝ }
-    ensures { λ r. ⌜ r ≡ numberAt (now (bytes .entry)) i ⌝ }
+    ensures { λ r. ⌜ r ≡ fourBytesAt (now (bytes .entry)) i ⌝ }
 {
     let first = wide(bytes[i]);
     let second = wide(bytes[i + 1]);

@@ -1,16 +1,16 @@
 -- `numbers_in` counts whole numbers, or one where bytes are over.
 -- Assumes nothing.
 use borrow.Author.Tests.{eq-eqb, ne-eqb}
-use Rattle.boundary.specs.Lent.{numbersIn}
+use Rattle.boundary.specs.Lent.{numberCount}
 use Rattle.boundary.proofs.lent.numbers_in.Statement.{statement}
 use Rattle.boundary.proofs.lent.numbers_in.Tie as tie
 
 returns : tie.Need-returns
-unfolding numbersIn
+unfolding numberCount
 returns c = rw (eq-eqb _ _ (c .if1 .taken))
 
 returns-2 : tie.Need-returns-2
-unfolding numbersIn
+unfolding numberCount
 returns-2 c = rw (ne-eqb _ _ (c .if1 .left))
 
 pub numbers-in-spec : {M : Type 1} → statement M

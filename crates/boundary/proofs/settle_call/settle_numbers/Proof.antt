@@ -1,6 +1,7 @@
 -- `settle_numbers` writes the bytes of the lines once they are settled.
 -- Assumes nothing.
 use mathlib.Core.Path.{_∙_}
+use native.Mathlib.Omega.{arith}
 use borrow.Author.Needs.{needs}
 use Rattle.boundary.proofs.SettleLaws.{just-call, just-within, just-refused, just-accepted, just-written}
 use Rattle.boundary.proofs.settle_call.settle_numbers.Statement.{statement}
@@ -13,7 +14,8 @@ pack-requires : tie.Need-pack-requires
 pack-requires c κs =
     let t = c .before .before .before in
     let s = t .before .before .before .before .before .before in
-    just-within _ _ _ _ (s .args .lines .now) (s .pre .0) _ (t .settle .ensures .0)
+    let within = just-within _ _ _ _ (s .args .lines .now) (s .pre .0) _ (t .settle .ensures .0) in
+    (omega (arith, within .0), omega (arith, within .1))
 
 same-length : tie.Need-same-length
 same-length c = search needs

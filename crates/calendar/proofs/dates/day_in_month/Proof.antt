@@ -1,8 +1,6 @@
 -- `day_in_month` answers 10 for a day that the month has not, else its book day.
 -- Assumes nothing.
-use mathlib.Core.Path.{refl}
 use native.Mathlib.Omega.{arith}
-use Rattle.laws.proofs.Refusals.{refused, kept}
 use Rattle.calendar.specs.Dates.{dayInMonth}
 use Rattle.calendar.proofs.DateLaws.{in-month}
 use Rattle.calendar.proofs.dates.day_in_month.Statement.{statement}
@@ -10,7 +8,7 @@ use Rattle.calendar.proofs.dates.day_in_month.Tie as tie
 
 returns : tie.Need-returns
 unfolding dayInMonth
-returns c = refused _ _ (c .if1 .taken)
+returns c = rw (c .if1 .taken)
 
 add-t7 : tie.Need-add-t7
 add-t7 c = omega (arith, in-month (c .before .args .day) (c .before .args .length) (c .if1 .left))
@@ -20,7 +18,7 @@ sub-t8 c = omega (arith, in-month (c .before .args .day) (c .before .args .lengt
 
 returns-2 : tie.Need-returns-2
 unfolding dayInMonth
-returns-2 c = kept _ (c .if1 .left) refl
+returns-2 c = rw (c .if1 .left)
 
 pub day-in-month-spec : {M : Type 1} → statement M
 day-in-month-spec = tie.close (tie.spec returns add-t7 sub-t8 returns-2)

@@ -1,7 +1,7 @@
 -- `energy` is the formula over the four sums; each call's demand is part of `Ready`.
 -- Assumes nothing.
 use borrow.Author.Needs.{needs}
-use Rattle.energy.specs.EnergyIn.{energyIn}
+use Rattle.energy.specs.EnergyIn.{heldEnergy}
 use Rattle.energy.proofs.lines.energy.Statement.{statement}
 use Rattle.energy.proofs.lines.energy.Tie as tie
 
@@ -24,7 +24,7 @@ spared-requires : tie.Need-spared-requires
 spared-requires c κs = search needs
 
 returns : tie.Need-returns
-unfolding energyIn
+unfolding heldEnergy
 returns c = rw (← c .before .drawn-sum2 .ensures .0, ← c .before .before .drawn-sum .ensures .0, ← c .before .before .before .trimmed-sum2 .ensures .0, ← c .before .before .before .before .trimmed-sum .ensures .0) (c .spared .ensures)
 
 pub energy-spec : {M : Type 1} → statement M

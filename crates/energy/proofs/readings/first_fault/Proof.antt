@@ -10,7 +10,7 @@ use borrow.Author.Needs.{needs}
 use borrow.Author.Tests.{not-true, not-false}
 use Rattle.laws.proofs.Guards.{found}
 use Rattle.energy.specs.Asked.{placesOn}
-use Rattle.energy.specs.Held.{hoursIn}
+use Rattle.energy.specs.Held.{heldHours}
 use Rattle.energy.specs.Readings.{firstFault}
 use Rattle.energy.proofs.SpanLaws.{day-clean, day-fault, ref-clean, ref-fault, refs-end}
 use Rattle.energy.proofs.readings.first_fault.Statement.{statement}
@@ -18,7 +18,7 @@ use Rattle.energy.proofs.readings.first_fault.Tie as tie
 
 abbrev Inv-loop : tie.InvT-loop
 Inv-loop book day hours refs i₀ i =
-    (i ≤ 5) × (firstFault book (placesOn (hoursIn hours 0 (hours .all)) (drop i refs)) ≡ firstFault book (placesOn (hoursIn hours 0 (hours .all)) (day ∷ refs)))
+    (i ≤ 5) × (firstFault book (placesOn (heldHours hours 0 (hours .all)) (drop i refs)) ≡ firstFault book (placesOn (heldHours hours 0 (hours .all)) (day ∷ refs)))
 
 abbrev μ-loop : tie.MeasureT-loop
 μ-loop book day hours refs i₀ i = 5 - i
@@ -35,12 +35,12 @@ is-clean-requires c κs = search needs
 returns : tie.Need-returns Inv-loop μ-loop
 returns c =
     let s = c .before .before .before .before in
-    day-fault (s .args .book .now) (hoursIn (s .args .hours) 0 (s .args .hours .all)) _ _ _ (c .before .before .day-fault .ensures) (found (c .before .is-clean .ensures) (not-true _ (c .if1 .taken)))
+    day-fault (s .args .book .now) (heldHours (s .args .hours) 0 (s .args .hours .all)) _ _ _ (c .before .before .day-fault .ensures) (found (c .before .is-clean .ensures) (not-true _ (c .if1 .taken)))
 
 loop-holds : tie.Need-loop-holds Inv-loop μ-loop
 loop-holds c =
     let s = c .before .before .before .before in
-    (search needs, day-clean (s .args .book .now) (hoursIn (s .args .hours) 0 (s .args .hours .all)) _ _ _ (c .before .before .day-fault .ensures) (found (c .before .is-clean .ensures) (not-false _ (c .if1 .left))))
+    (search needs, day-clean (s .args .book .now) (heldHours (s .args .hours) 0 (s .args .hours .all)) _ _ _ (c .before .before .day-fault .ensures) (found (c .before .is-clean .ensures) (not-false _ (c .if1 .left))))
 
 mul-d : tie.Need-mul-d Inv-loop μ-loop
 mul-d c = search needs
@@ -59,7 +59,7 @@ is-clean-requires-2 c κs = search needs
 returns-2 : tie.Need-returns-2 Inv-loop μ-loop
 returns-2 c =
     let s = c .before .before .before .before .before .before .before .before .before in
-    ref-fault (s .args .book .now) (hoursIn (s .args .hours) 0 (s .args .hours .all)) _ (c .before .before .before .before .loop .i) (omega (arith, five-long s)) _ (c .before .before .day-fault2 .ensures)
+    ref-fault (s .args .book .now) (heldHours (s .args .hours) 0 (s .args .hours .all)) _ (c .before .before .before .before .loop .i) (omega (arith, five-long s)) _ (c .before .before .day-fault2 .ensures)
     (found (c .before .is-clean2 .ensures) (not-true _ (c .if2 .taken)))
     ∙ c .before .before .before .before .loop .inv .1
 
@@ -73,7 +73,7 @@ loop-again : tie.Need-loop-again Inv-loop μ-loop
 loop-again c =
     let s = c .before .before .before .before .before .before .before .before .before in (
       search needs,
-      ref-clean (s .args .book .now) (hoursIn (s .args .hours) 0 (s .args .hours .all)) (s .args .t4) (c .before .before .before .before .loop .i) (omega (arith, five-long s)) _ (c .before .before .day-fault2 .ensures)
+      ref-clean (s .args .book .now) (heldHours (s .args .hours) 0 (s .args .hours .all)) (s .args .t4) (c .before .before .before .before .loop .i) (omega (arith, five-long s)) _ (c .before .before .day-fault2 .ensures)
           (found (c .before .is-clean2 .ensures) (not-false _ (c .if2 .left)))
           ∙ c .before .before .before .before .loop .inv .1,
     )
@@ -81,7 +81,7 @@ loop-again c =
 returns-3 : tie.Need-returns-3 Inv-loop μ-loop
 returns-3 c =
     let s = c .before .before .before .before .before .before in
-    refs-end (s .args .book .now) (hoursIn (s .args .hours) 0 (s .args .hours .all)) _ (c .before .loop .i) (omega (arith, five-long s)) ∙ c .before .loop .inv .1
+    refs-end (s .args .book .now) (heldHours (s .args .hours) 0 (s .args .hours .all)) _ (c .before .loop .i) (omega (arith, five-long s)) ∙ c .before .loop .inv .1
 
 pub first-fault-spec : {M : Type 1} → statement M
 first-fault-spec =

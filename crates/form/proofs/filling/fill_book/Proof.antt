@@ -10,17 +10,20 @@ use Rattle.form.proofs.filling.fill_book.Statement.{statement}
 use Rattle.form.proofs.filling.fill_book.Tie as tie
 
 abbrev Inv-loop : tie.InvT-loop
-Inv-loop text book₀ left₀ i₀ book left i =
+Inv-loop text book₀ left₀ i₀ key book left i =
     (length book ≡ length book₀) × (bookRead left₀ text i₀ book₀ ≡ bookRead left text i book)
 
 abbrev μ-loop : tie.MeasureT-loop
-μ-loop text book₀ left₀ i₀ book left i = left
+μ-loop text book₀ left₀ i₀ key book left i = left
 
 loop-holds : tie.Need-loop-holds Inv-loop μ-loop
 loop-holds c = (refl, refl)
 
-read-head-requires : tie.Need-read-head-requires Inv-loop μ-loop
-read-head-requires c κs = search needs
+slice-aggregate-head-at : tie.Need-slice-aggregate-head-at Inv-loop μ-loop
+slice-aggregate-head-at c = search needs
+
+head-at-requires : tie.Need-head-at-requires Inv-loop μ-loop
+head-at-requires c κs = search needs
 
 enum-known-day : tie.Need-enum-known-day Inv-loop μ-loop
 enum-known-day c = search needs
@@ -33,9 +36,9 @@ same-length c = search needs
 
 returns : tie.Need-returns Inv-loop μ-loop
 returns c =
-    let l = c .before .before .before .before .loop in
-    let e = sym (c .before .before .read-head .ensures) ∙ c .enum-told .given .1 in
-    sym (l .inv .1 ∙ book-stop _ _ _ _ (c .before .before .before .loop-test .taken) e)
+    let l = c .before .before .before .before .before .loop in
+    let e = sym (c .before .before .head-at .ensures) ∙ c .enum-told .given .1 in
+    sym (l .inv .1 ∙ book-stop _ _ _ _ (c .before .before .before .before .loop-test .taken) e)
 
 store-values-requires : tie.Need-store-values-requires Inv-loop μ-loop
 store-values-requires c κs = search needs
@@ -51,10 +54,12 @@ same-length-2 c = search needs
 
 returns-2 : tie.Need-returns-2 Inv-loop μ-loop
 returns-2 c =
-    let l = c .before .before .before .before .before .before .before .before .before .before .before .loop in
-    let e = sym (c .before .before .before .before .before .before .before .before .before .read-head .ensures) ∙ c .before .before .before .before .before .before .before .day .given .1 in
-    let f = sym (c .before .before .before .before .store-values .ensures .0) ∙ c .enum-told2 .given .1 in
-    c .before .before .before .before .store-values .ensures .1 ∙ sym (l .inv .1 ∙ book-cut _ _ _ _ (c .before .before .before .before .before .before .before .before .before .before .loop-test .taken) e f)
+    let s = c .before .before .before .before in
+    let d = s .before .before .before in
+    let l = d .before .before .before .before .before .loop in
+    let e = sym (d .before .before .head-at .ensures) ∙ d .day .given .1 in
+    let f = sym (s .store-values .ensures .0) ∙ c .enum-told2 .given .1 in
+    rw (s .store-values .ensures .1) (sym (l .inv .1 ∙ book-cut _ _ _ _ (d .before .before .before .before .loop-test .taken) e f))
 
 sub-left : tie.Need-sub-left Inv-loop μ-loop
 sub-left c = search needs
@@ -64,10 +69,12 @@ loop-less c = search needs
 
 loop-again : tie.Need-loop-again Inv-loop μ-loop
 loop-again c =
-    let l = c .before .before .before .before .before .before .before .before .before .before .before .before .loop in
-    let e = sym (c .before .before .before .before .before .before .before .before .before .before .read-head .ensures) ∙ c .before .before .before .before .before .before .before .before .day .given .1 in
-    let f = sym (c .before .before .before .before .before .store-values .ensures .0) ∙ c .before .next .given .1 in
-    (search needs, rw (c .before .before .before .before .before .store-values .ensures .1) (l .inv .1 ∙ book-more _ _ _ _ (c .before .before .before .before .before .before .before .before .before .before .before .loop-test .taken) e f))
+    let s = c .before .before .before .before .before in
+    let d = s .before .before .before in
+    let l = d .before .before .before .before .before .loop in
+    let e = sym (d .before .before .head-at .ensures) ∙ d .day .given .1 in
+    let f = sym (s .store-values .ensures .0) ∙ c .before .next .given .1 in
+    (search needs, rw (s .store-values .ensures .1) (l .inv .1 ∙ book-more _ _ _ _ (d .before .before .before .before .loop-test .taken) e f))
 
 same-length-3 : tie.Need-same-length-3 Inv-loop μ-loop
 same-length-3 c = search needs
@@ -82,7 +89,8 @@ fill-book-spec =
     Inv-loop
     μ-loop
     loop-holds
-    read-head-requires
+    slice-aggregate-head-at
+    head-at-requires
     enum-known-day
     enum-told
     same-length

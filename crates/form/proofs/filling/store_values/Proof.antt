@@ -6,7 +6,7 @@ use mathlib.Core.Path.{_≡_, refl, sym, ap, _∙_}
 use native.Mathlib.Omega.{arith}
 use lib.ListN.{length, length-set}
 use Rattle.form.specs.Lines.{valuesAt}
-use Rattle.form.specs.Places.{placeOf}
+use Rattle.form.specs.Places.{hourPlace}
 use Rattle.form.specs.Said.{valuesInto}
 use Rattle.form.proofs.LineLaws.{values-done, values-none, values-last, values-bad, values-more}
 use Rattle.form.proofs.SaidLaws.{into-done, into-none, into-last, into-bad, into-more}
@@ -19,7 +19,7 @@ Inv-loop text at day hour book₀ left₀ count₀ i₀ k₀ book left count i k
     ((count + left ≡ 24) × (k + left ≤ 107374182399))
     × ((length book ≡ length book₀)
     × ((valuesAt 24 text at 0 ≡ valuesAt left text i count)
-    × (valuesInto 24 text at book₀ (placeOf day hour) ≡ valuesInto left text i book k)))
+    × (valuesInto 24 text at book₀ (hourPlace day hour) ≡ valuesInto left text i book k)))
 
 abbrev μ-loop : tie.MeasureT-loop
 μ-loop text at day hour book₀ left₀ count₀ i₀ k₀ book left count i k = left

@@ -1,119 +1,70 @@
 -- An event line is the definition's: each return by the calls that led to it.
 -- Assumes nothing.
+use Rattle.form.specs.Lines.{eventLineAt}
 use borrow.Author.Needs.{needs}
-use Rattle.form.specs.Lines.{eventAt}
 use Rattle.form.proofs.lines.event_line.Statement.{statement}
 use Rattle.form.proofs.lines.event_line.Tie as tie
 
-slice-aggregate-word-at : tie.Need-slice-aggregate-word-at
-slice-aggregate-word-at c = search needs
+slice-aggregate-head-at : tie.Need-slice-aggregate-head-at
+slice-aggregate-head-at c = search needs
 
-word-at-requires : tie.Need-word-at-requires
-word-at-requires c κs = search needs
+head-at-requires : tie.Need-head-at-requires
+head-at-requires c κs = search needs
 
-enum-known-p : tie.Need-enum-known-p
-enum-known-p c = search needs
+enum-known-day : tie.Need-enum-known-day
+enum-known-day c = search needs
 
 enum-told : tie.Need-enum-told
 enum-told c = search needs
 
 returns : tie.Need-returns
-unfolding eventAt
-returns c = rw
-    (← c .before .before .word-at .ensures, c .enum-told .given .1)
+unfolding eventLineAt
+returns c =
+    rw (
+      ← c .before .before .head-at .ensures,
+      c .enum-told .given .1,
+    )
 
 field-at-requires : tie.Need-field-at-requires
 field-at-requires c κs = search needs
 
-enum-known-day : tie.Need-enum-known-day
-enum-known-day c = search needs
+enum-known-end : tie.Need-enum-known-end
+enum-known-end c = search needs
 
 enum-told-2 : tie.Need-enum-told-2
 enum-told-2 c = search needs
 
 returns-2 : tie.Need-returns-2
-unfolding eventAt
-returns-2 c = rw (
-  ← c .before .before .before .before .before .before .word-at .ensures,
-  c .before .before .before .before .p .given .1,
-  ← c .before .before .field-at .ensures,
-  c .enum-told2 .given .1,
-)
-
-field-at-requires-2 : tie.Need-field-at-requires-2
-field-at-requires-2 c κs = search needs
-
-enum-known-start : tie.Need-enum-known-start
-enum-known-start c = search needs
-
-enum-told-3 : tie.Need-enum-told-3
-enum-told-3 c = search needs
+unfolding eventLineAt
+returns-2 c =
+    rw (
+      ← c .before .before .before .before .before .before .head-at .ensures,
+      c .before .before .before .before .day .given .1,
+      ← c .before .before .field-at .ensures,
+      c .enum-told2 .given .1,
+    )
 
 returns-3 : tie.Need-returns-3
-unfolding eventAt
-returns-3 c = rw (
-  ← c .before .before .before .before .before .before .before .before .before .before .word-at .ensures,
-  c .before .before .before .before .before .before .before .before .p .given .1,
-  ← c .before .before .before .before .before .before .field-at .ensures,
-  c .before .before .before .before .day .given .1,
-  ← c .before .before .field-at2 .ensures,
-  c .enum-told3 .given .1,
-)
-
-field-at-requires-3 : tie.Need-field-at-requires-3
-field-at-requires-3 c κs = search needs
-
-enum-known-end : tie.Need-enum-known-end
-enum-known-end c = search needs
-
-enum-told-4 : tie.Need-enum-told-4
-enum-told-4 c = search needs
-
-returns-4 : tie.Need-returns-4
-unfolding eventAt
-returns-4 c = rw (
-  ← c .before .before .before .before .before .before .before .before .before .before .before .before .before .before .word-at .ensures,
-  c .before .before .before .before .before .before .before .before .before .before .before .before .p .given .1,
-  ← c .before .before .before .before .before .before .before .before .before .before .field-at .ensures,
-  c .before .before .before .before .before .before .before .before .day .given .1,
-  ← c .before .before .before .before .before .before .field-at2 .ensures,
-  c .before .before .before .before .start .given .1,
-  ← c .before .before .field-at3 .ensures,
-  c .enum-told4 .given .1,
-)
-
-returns-5 : tie.Need-returns-5
-unfolding eventAt
-returns-5 c = rw (
-  ← c .before .before .before .before .before .before .before .before .before .before .before .before .before .before .before .word-at .ensures,
-  c .before .before .before .before .before .before .before .before .before .before .before .before .before .p .given .1,
-  ← c .before .before .before .before .before .before .before .before .before .before .before .field-at .ensures,
-  c .before .before .before .before .before .before .before .before .before .day .given .1,
-  ← c .before .before .before .before .before .before .before .field-at2 .ensures,
-  c .before .before .before .before .before .start .given .1,
-  ← c .before .before .before .field-at3 .ensures,
-  c .before .end .given .1,
-)
+unfolding eventLineAt
+returns-3 c =
+    rw (
+      ← c .before .before .before .before .before .before .before .head-at .ensures,
+      c .before .before .before .before .before .day .given .1,
+      ← c .before .before .before .field-at .ensures,
+      c .before .end .given .1,
+    )
 
 pub event-line-spec : {M : Type 1} → statement M
 event-line-spec =
     tie.close
     (tie.spec
-    slice-aggregate-word-at
-    word-at-requires
-    enum-known-p
+    slice-aggregate-head-at
+    head-at-requires
+    enum-known-day
     enum-told
     returns
     field-at-requires
-    enum-known-day
+    enum-known-end
     enum-told-2
     returns-2
-    field-at-requires-2
-    enum-known-start
-    enum-told-3
-    returns-3
-    field-at-requires-3
-    enum-known-end
-    enum-told-4
-    returns-4
-    returns-5)
+    returns-3)

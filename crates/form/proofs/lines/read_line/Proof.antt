@@ -1,12 +1,15 @@
 -- A read line is the definition's: each return by the calls that led to it.
 -- Assumes nothing.
-use Rattle.form.specs.Lines.{readAt}
+use Rattle.form.specs.Lines.{readLineAt}
 use borrow.Author.Needs.{needs}
 use Rattle.form.proofs.lines.read_line.Statement.{statement}
 use Rattle.form.proofs.lines.read_line.Tie as tie
 
-read-head-requires : tie.Need-read-head-requires
-read-head-requires c κs = search needs
+slice-aggregate-head-at : tie.Need-slice-aggregate-head-at
+slice-aggregate-head-at c = search needs
+
+head-at-requires : tie.Need-head-at-requires
+head-at-requires c κs = search needs
 
 enum-known-day : tie.Need-enum-known-day
 enum-known-day c = search needs
@@ -15,10 +18,10 @@ enum-told : tie.Need-enum-told
 enum-told c = search needs
 
 returns : tie.Need-returns
-unfolding readAt
+unfolding readLineAt
 returns c =
     rw (
-      ← c .before .before .read-head .ensures,
+      ← c .before .before .head-at .ensures,
       c .enum-told .given .1,
     )
 
@@ -32,20 +35,20 @@ enum-told-2 : tie.Need-enum-told-2
 enum-told-2 c = search needs
 
 returns-2 : tie.Need-returns-2
-unfolding readAt
+unfolding readLineAt
 returns-2 c =
     rw (
-      ← c .before .before .before .before .before .before .read-head .ensures,
+      ← c .before .before .before .before .before .before .head-at .ensures,
       c .before .before .before .before .day .given .1,
       ← c .before .before .value-run .ensures,
       c .enum-told2 .given .1,
     )
 
 returns-3 : tie.Need-returns-3
-unfolding readAt
+unfolding readLineAt
 returns-3 c =
     rw (
-      ← c .before .before .before .before .before .before .before .read-head .ensures,
+      ← c .before .before .before .before .before .before .before .head-at .ensures,
       c .before .before .before .before .before .day .given .1,
       ← c .before .before .before .value-run .ensures,
       c .before .count .given .1,
@@ -55,7 +58,8 @@ pub read-line-spec : {M : Type 1} → statement M
 read-line-spec =
     tie.close
     (tie.spec
-    read-head-requires
+    slice-aggregate-head-at
+    head-at-requires
     enum-known-day
     enum-told
     returns

@@ -1,6 +1,7 @@
--- `event_by` is the event of the notice at index k.
+-- `event_by` is the event of the notice at index k, and small as every event is.
 -- Assumes nothing.
 use borrow.Author.Needs.{needs}
+use Rattle.energy.proofs.Given.{answer-most}
 use Rattle.money.specs.Lines.{eventBy}
 use Rattle.money.proofs.lines.event_by.Statement.{statement}
 use Rattle.money.proofs.lines.event_by.Tie as tie
@@ -16,7 +17,10 @@ event-of-requires c κs = search needs
 
 returns : tie.Need-returns
 unfolding eventBy
-returns c = rw (c .event-of .ensures, c .before .settle-event .ensures, c .before .before .notice-at .ensures)
+returns c = (
+  rw (c .event-of .ensures, c .before .settle-event .ensures, c .before .before .notice-at .ensures),
+  rw (c .event-of .ensures, c .before .settle-event .ensures) (answer-most _ _ _ _),
+)
 
 pub event-by-spec : {M : Type 1} → statement M
 event-by-spec =

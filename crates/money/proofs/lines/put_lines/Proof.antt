@@ -13,7 +13,7 @@ use Rattle.money.specs.Lines.{eventBy, energyTo, centsAt, lineAt, linesT
 use Rattle.money.specs.Settlement.{linesIn}
 use Rattle.money.specs.Worth.{roundedWorth}
 use Rattle.money.specs.declared.lines.Event.{Event}
-use Rattle.money.proofs.LineLaws.{events-small, energy-next, total-small, lines-next}
+use Rattle.money.proofs.LineLaws.{Small, events-small, energy-next, energy-small, lines-next}
 use Rattle.money.proofs.WorthLaws.{worth-zero, worth-grows}
 use Rattle.money.proofs.lines.put_lines.Statement.{statement}
 use Rattle.money.proofs.lines.put_lines.Tie as tie
@@ -31,11 +31,11 @@ module _ {p : ℕ} {events : ℕ → Event} {out₀ : List ℕ} {n : ℕ} {out :
   more-is e q = rw (h .energy-is, q) (sym (energy-next events k))
 
   -- it fits, as does its worth, and its worth is no less than that before
-  more-small : (e : Event) → e ≡ events k → ((j : ℕ) → events j .energy ≤ 1500000000) → k < n → n ≤ 100 → energy + e .energy ≤ 150000000000
-  more-small e q small lt few = rw (more-is e q) (total-small events small (suc k) (omega arith))
+  more-small : (e : ℕ) → e ≤ 1500000000 → Small events → k < n → n ≤ 100 → energy + e ≤ 150000000000
+  more-small e b small lt few = omega (arith, h .energy-is, energy-small events small k)
 
-  worth-before : (e : Event) → e ≡ events k → (w : ℕ) → w ≡ roundedWorth p (energy + e .energy) → worth ≤ w
-  worth-before e q w v = rw (v, h .worth-is, h .energy-is) (worth-grows p (energyTo events k) (e .energy))
+  worth-before : (e w : ℕ) → w ≡ roundedWorth p (energy + e) → worth ≤ w
+  worth-before e w v = rw (v, h .worth-is, h .energy-is) (worth-grows p (energyTo events k) e)
 
   w-is : (e : Event) → e ≡ events k → (w : ℕ) → w ≡ roundedWorth p (energy + e .energy) → w ≡ roundedWorth p (energyTo events (suc k))
   w-is e q w v = v ∙ ap (roundedWorth p) (more-is e q)
@@ -79,13 +79,13 @@ add-more : tie.Need-add-more Inv-loop μ-loop
 add-more c =
     let l = c .before .before .before in
     let s = l .before .before .before .before in
-    omega (arith, more-small (l .loop .inv) _ (c .before .event-by .ensures) (events-small _ _ _ _) (c .before .before .loop-test .taken) (s .pre .1))
+    omega (arith, more-small (l .loop .inv) _ (c .before .event-by .ensures .1) (events-small _ _ _ _) (c .before .before .loop-test .taken) (s .pre .1))
 
 rounded-worth-requires : tie.Need-rounded-worth-requires Inv-loop μ-loop
 rounded-worth-requires c κs =
     let l = c .before .before .before in
     let s = l .before .before .before .before in
-    (s .pre .2, more-small (l .loop .inv) _ (c .before .event-by .ensures) (events-small _ _ _ _) (c .before .before .loop-test .taken) (s .pre .1))
+    (s .pre .2, omega (arith, more-small (l .loop .inv) _ (c .before .event-by .ensures .1) (events-small _ _ _ _) (c .before .before .loop-test .taken) (s .pre .1)))
 
 mul-put-line : tie.Need-mul-put-line Inv-loop μ-loop
 mul-put-line c = omega arith
@@ -93,7 +93,7 @@ mul-put-line c = omega arith
 sub-put-line : tie.Need-sub-put-line Inv-loop μ-loop
 sub-put-line c =
     let l = c .before .before .before .before .before in
-    worth-before (l .loop .inv) _ (c .before .before .before .event-by .ensures) _ (c .before .rounded-worth .ensures)
+    worth-before (l .loop .inv) _ _ (c .before .rounded-worth .ensures)
 
 put-line-requires : tie.Need-put-line-requires Inv-loop μ-loop
 put-line-requires c κs = omega arith
@@ -110,7 +110,7 @@ loop-again c =
     let e = t .before .before .before .before in
     let l = e .before .before in
     let s = l .before .before .before .before in
-    held-next (l .loop .inv) _ (e .event-by .ensures) _ (t .before .before .rounded-worth .ensures) (e .before .loop-test .taken) (s .pre .0) _ (t .put-line .kept .0) (t .put-line .ensures)
+    held-next (l .loop .inv) _ (e .event-by .ensures .0) _ (t .before .before .rounded-worth .ensures) (e .before .loop-test .taken) (s .pre .0) _ (t .put-line .kept .0) (t .put-line .ensures)
 
 same-length : tie.Need-same-length Inv-loop μ-loop
 same-length c = c .before .loop .inv .size

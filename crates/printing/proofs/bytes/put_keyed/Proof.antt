@@ -2,8 +2,8 @@
 -- Assumes nothing.
 use native.Mathlib.Omega.{arith}
 use borrow.Author.Needs.{needs}
-use Rattle.numerals.specs.Lines.{row, lineBytes}
-use Rattle.printing.proofs.PutLaws.{put-then}
+use Rattle.numerals.proofs.LineLaws.{line-one}
+use Rattle.printing.proofs.PutLaws.{put-same, put-then}
 use Rattle.printing.proofs.bytes.put_keyed.Statement.{statement}
 use Rattle.printing.proofs.bytes.put_keyed.Tie as tie
 
@@ -17,9 +17,9 @@ same-length : tie.Need-same-length
 same-length c = search needs
 
 returns : tie.Need-returns
-unfolding lineBytes row
 returns c =
-    (put-then (c .before .before .before .before .before .before .put-key .ensures) (c .before .before .put-field .ensures .0), omega arith)
+    let f = c .before .before in
+    (put-same (put-then (f .before .before .before .before .put-key .ensures) (f .put-field .ensures .0)) (simp line-one), omega arith)
 
 pub put-keyed-spec : {M : Type 1} → statement M
 put-keyed-spec = tie.close (tie.spec put-key-requires put-field-requires same-length returns)

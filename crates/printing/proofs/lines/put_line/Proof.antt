@@ -3,7 +3,7 @@
 use mathlib.Core.List.{append-assoc}
 use native.Mathlib.Omega.{arith}
 use borrow.Author.Needs.{needs}
-use Rattle.numerals.specs.Lines.{row, lineBytes}
+use Rattle.numerals.proofs.LineLaws.{fields-more, line-is}
 use Rattle.printing.proofs.PutLaws.{put-same, put-then}
 use Rattle.printing.proofs.lines.put_line.Statement.{statement}
 use Rattle.printing.proofs.lines.put_line.Tie as tie
@@ -24,12 +24,12 @@ same-length : tie.Need-same-length
 same-length c = search needs
 
 returns : tie.Need-returns
-unfolding lineBytes row
 returns c =
     let t = c .before .before in
     let s = t .before .before .before .before in
     let f = s .before .before .before .before in
-    (put-same (put-then (f .put-key .ensures) (put-then (s .put-notice .ensures .0) (t .put-settled .ensures .0))) (simp append-assoc), omega arith)
+    let all = put-then (f .put-key .ensures) (put-then (s .put-notice .ensures .0) (t .put-settled .ensures .0)) in
+    (put-same all (simp (line-is, fields-more, append-assoc)), omega arith)
 
 pub put-line-spec : {M : Type 1} → statement M
 put-line-spec =

@@ -11,21 +11,16 @@ use Rattle.numerals.specs.Lines.{lineBytes, bytesOfLines}
 use Rattle.schedule.specs.Notices.{noticeAt}
 use Rattle.schedule.specs.declared.notices.Notice.{Notice}
 use Rattle.printing.specs.Put.{Put}
-use Rattle.printing.specs.Settled.{settledIn, lineOf}
+use Rattle.printing.specs.Settled.{settledIn, lineFor}
 use Rattle.printing.specs.Sheet.{noticeLine, noticeLines}
 use Rattle.printing.specs.declared.lines.Settled.{Settled}
-use Rattle.printing.proofs.PutLaws.{put-length, put-last, put-both}
+use Rattle.printing.proofs.PutLaws.{put-length, put-none, put-last, put-both}
 use Rattle.printing.proofs.lines.put_lines.Statement.{statement}
 use Rattle.printing.proofs.lines.put_lines.Tie as tie
 
--- no line yet
-lines-none : (l out before : List ℕ) (at : ℕ) → Put before at (bytesOfLines (noticeLines l out 0)) at before
-unfolding noticeLines bytesOfLines
-lines-none l out before at = record { ends = omega arith; holds = refl }
-
 -- a turn: one line more
 lines-next : (l out : List ℕ) (k : ℕ) {before now after : List ℕ} {i p q : ℕ} {n : Notice} {s : Settled} → n ≡ noticeAt l k → s ≡ settledIn out k
-    → Put before i (bytesOfLines (noticeLines l out k)) p now → Put now p (lineBytes (lineOf n s)) q after
+    → Put before i (bytesOfLines (noticeLines l out k)) p now → Put now p (lineBytes (lineFor n s)) q after
     → Put before i (bytesOfLines (noticeLines l out (k + 1))) q after
 unfolding noticeLines noticeLine
 lines-next l out k e f a b =
@@ -39,7 +34,8 @@ abbrev μ-loop : tie.MeasureT-loop
 μ-loop out₀ at list lines n next₀ k₀ out next k = n - k
 
 loop-holds : tie.Need-loop-holds Inv-loop μ-loop
-loop-holds c = (omega arith, omega arith, refl, lines-none _ _ _ _)
+unfolding noticeLines
+loop-holds c = (omega arith, omega arith, refl, put-none _ _)
 
 notice-at-requires : tie.Need-notice-at-requires Inv-loop μ-loop
 notice-at-requires c κs = search needs

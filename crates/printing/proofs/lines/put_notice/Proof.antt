@@ -1,4 +1,4 @@
--- `put_notice` is three fields in a row.
+-- `put_notice` is three fields, one after the other.
 -- Assumes nothing.
 use native.Mathlib.Omega.{arith}
 use borrow.Author.Needs.{needs}

@@ -2,9 +2,9 @@
 -- Assumes nothing.
 use native.Mathlib.Omega.{arith}
 use borrow.Author.Needs.{needs}
-use Rattle.numerals.specs.Lines.{row, lineBytes}
+use Rattle.numerals.proofs.LineLaws.{fields-last, fields-more, line-is}
 use Rattle.printing.specs.Sheet.{refusedLines}
-use Rattle.printing.proofs.PutLaws.{put-then, put-last}
+use Rattle.printing.proofs.PutLaws.{put-same, put-then, put-last}
 use Rattle.printing.proofs.sheet.put_refusal.Statement.{statement}
 use Rattle.printing.proofs.sheet.put_refusal.Tie as tie
 
@@ -24,12 +24,13 @@ same-length : tie.Need-same-length
 same-length c = search needs
 
 returns : tie.Need-returns
-unfolding lineBytes row refusedLines
+unfolding refusedLines
 returns c =
     let t = c .before .before in
     let s = t .before .before .before .before in
     let f = s .before .before .before .before in
-    (put-last _ (put-then (f .put-key .ensures) (put-then (s .put-field .ensures .0) (t .put-field2 .ensures .0))), omega arith)
+    let all = put-then (f .put-key .ensures) (put-then (s .put-field .ensures .0) (t .put-field2 .ensures .0)) in
+    (put-last _ (put-same all (simp (line-is, fields-more, fields-last))), omega arith)
 
 pub put-refusal-spec : {M : Type 1} → statement M
 put-refusal-spec =

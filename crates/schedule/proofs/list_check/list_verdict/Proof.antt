@@ -1,10 +1,8 @@
 -- `list_verdict` tries rules 15, 16 and 18 in their order: one way out for each row of the table, and one past them all.
 -- Assumes nothing.
-use mathlib.Core.Path.{refl}
 use borrow.Author.Needs.{needs}
 use Rattle.laws.proofs.Guards.{found}
-use Rattle.laws.proofs.Refusals.{refused, kept}
-use Rattle.laws.specs.Table.{firstOf}
+use Rattle.laws.proofs.Tables.{row-stops, row-goes, rows-end}
 use Rattle.schedule.specs.ListCheck.{listRows}
 use Rattle.schedule.proofs.list_check.list_verdict.Statement.{statement}
 use Rattle.schedule.proofs.list_check.list_verdict.Tie as tie
@@ -13,35 +11,35 @@ starts-before-requires : tie.Need-starts-before-requires
 starts-before-requires c κs = search needs
 
 returns : tie.Need-returns
-unfolding firstOf listRows
+unfolding listRows
 returns c =
-    refused _ _ (found (c .before .starts-before .ensures) (c .if1 .taken))
+    row-stops _ _ _ (found (c .before .starts-before .ensures) (c .if1 .taken))
 
 same-band-requires : tie.Need-same-band-requires
 same-band-requires c κs = search needs
 
 returns-2 : tie.Need-returns-2
-unfolding firstOf listRows
+unfolding listRows
 returns-2 c =
-    kept _ (found (c .before .before .before .starts-before .ensures) (c .before .before .if1 .left))
-    (refused _ _ (found (c .before .same-band .ensures) (c .if2 .taken)))
+    row-goes _ _ _ (found (c .before .before .before .starts-before .ensures) (c .before .before .if1 .left))
+    (row-stops _ _ _ (found (c .before .same-band .ensures) (c .if2 .taken)))
 
 over-limit-requires : tie.Need-over-limit-requires
 over-limit-requires c κs = search needs
 
 returns-3 : tie.Need-returns-3
-unfolding firstOf listRows
+unfolding listRows
 returns-3 c =
-    kept _ (found (c .before .before .before .before .before .starts-before .ensures) (c .before .before .before .before .if1 .left))
-    (kept _ (found (c .before .before .before .same-band .ensures) (c .before .before .if2 .left))
-    (refused _ _ (found (c .before .over-limit .ensures) (c .if3 .taken))))
+    row-goes _ _ _ (found (c .before .before .before .before .before .starts-before .ensures) (c .before .before .before .before .if1 .left))
+    (row-goes _ _ _ (found (c .before .before .before .same-band .ensures) (c .before .before .if2 .left))
+    (row-stops _ _ _ (found (c .before .over-limit .ensures) (c .if3 .taken))))
 
 returns-4 : tie.Need-returns-4
-unfolding firstOf listRows
+unfolding listRows
 returns-4 c =
-    kept _ (found (c .before .before .before .before .before .starts-before .ensures) (c .before .before .before .before .if1 .left))
-    (kept _ (found (c .before .before .before .same-band .ensures) (c .before .before .if2 .left))
-    (kept _ (found (c .before .over-limit .ensures) (c .if3 .left)) refl))
+    row-goes _ _ _ (found (c .before .before .before .before .before .starts-before .ensures) (c .before .before .before .before .if1 .left))
+    (row-goes _ _ _ (found (c .before .before .before .same-band .ensures) (c .before .before .if2 .left))
+    (row-goes _ _ _ (found (c .before .over-limit .ensures) (c .if3 .left)) (rows-end _)))
 
 pub list-verdict-spec : {M : Type 1} → statement M
 list-verdict-spec =

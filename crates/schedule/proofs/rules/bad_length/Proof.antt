@@ -2,7 +2,6 @@
 -- Assumes nothing.
 use Rattle.schedule.proofs.RuleLaws.{length-is}
 use borrow.Author.Needs.{needs}
-use Rattle.schedule.specs.Rules.{badLength}
 use Rattle.schedule.proofs.rules.bad_length.Statement.{statement}
 use Rattle.schedule.proofs.rules.bad_length.Tie as tie
 

@@ -1,7 +1,7 @@
 -- `excluded_day` is the calendar's test.
 -- Assumes nothing.
 use borrow.Author.Needs.{needs}
-use Rattle.schedule.specs.Rules.{excludedDay}
+use Rattle.schedule.specs.Rules.{onExcludedDay}
 use Rattle.schedule.proofs.rules.excluded_day.Statement.{statement}
 use Rattle.schedule.proofs.rules.excluded_day.Tie as tie
 
@@ -9,7 +9,7 @@ is-excluded-requires : tie.Need-is-excluded-requires
 is-excluded-requires c κs = search needs
 
 returns : tie.Need-returns
-unfolding excludedDay
+unfolding onExcludedDay
 returns c = rw (c .is-excluded .ensures)
 
 pub excluded-day-spec : {M : Type 1} → statement M

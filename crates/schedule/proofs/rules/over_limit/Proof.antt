@@ -2,7 +2,6 @@
 -- Assumes nothing.
 use Rattle.schedule.proofs.RuleLaws.{limit-is}
 use borrow.Author.Needs.{needs}
-use Rattle.schedule.specs.Rules.{overLimit}
 use Rattle.schedule.proofs.rules.over_limit.Statement.{statement}
 use Rattle.schedule.proofs.rules.over_limit.Tie as tie
 

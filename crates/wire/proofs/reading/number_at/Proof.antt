@@ -2,7 +2,7 @@
 -- Assumes nothing.
 use native.Mathlib.Omega.{arith}
 use borrow.Author.Needs.{needs}
-use Rattle.wire.specs.Bytes.{numberAt}
+use Rattle.wire.specs.Bytes.{fourBytesAt}
 use Rattle.wire.proofs.reading.number_at.Statement.{statement}
 use Rattle.wire.proofs.reading.number_at.Tie as tie
 
@@ -58,7 +58,7 @@ add-result-3 : tie.Need-add-result-3
 add-result-3 c = search needs
 
 returns : tie.Need-returns
-unfolding numberAt
+unfolding fourBytesAt
 returns c = omega arith
 
 pub number-at-spec : {M : Type 1} → statement M

@@ -1,12 +1,9 @@
--- The head of a read line is the definition's: each return by the calls that led to it.
+-- A key and two numbers, with a comma after each, are the definition's: each return by the calls that led to it.
 -- Assumes nothing.
 use Rattle.form.specs.Lines.{headAt}
 use borrow.Author.Needs.{needs}
-use Rattle.form.proofs.lines.read_head.Statement.{statement}
-use Rattle.form.proofs.lines.read_head.Tie as tie
-
-slice-aggregate-word-at : tie.Need-slice-aggregate-word-at
-slice-aggregate-word-at c = search needs
+use Rattle.form.proofs.lines.head_at.Statement.{statement}
+use Rattle.form.proofs.lines.head_at.Tie as tie
 
 word-at-requires : tie.Need-word-at-requires
 word-at-requires c κs = search needs
@@ -77,11 +74,10 @@ returns-4 c =
       c .before .hour .given .1,
     )
 
-pub read-head-spec : {M : Type 1} → statement M
-read-head-spec =
+pub head-at-spec : {M : Type 1} → statement M
+head-at-spec =
     tie.close
     (tie.spec
-    slice-aggregate-word-at
     word-at-requires
     enum-known-p
     enum-told
