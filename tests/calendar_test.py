@@ -1,7 +1,7 @@
 """Compares the calendar's program with the second program, query by query.
 
 The program answers and second/winters.py are asked the same queries and must
-print the same lines. Document 01's own figures are looked for in the program's output.
+print the same lines. Document 01's own figures must be both programs' answers.
 The last line printed is "N passed, M failed".
 """
 
@@ -49,9 +49,9 @@ FIGURES = (
 )
 FIXED_DAYS = {53, 54, 55, 60, 61, 62}
 EASTER_DAYS = (
-    ("winter 2026 excludes also days 145 and 148", 2026, {145, 148}),
-    ("winter 2023 excludes also day 149", 2023, {149}),
-    ("winter 2027 excludes no more", 2027, set()),
+    ("winter 2026 excludes also days 145 and 148", 2026, (145, 148)),
+    ("winter 2023 excludes also day 149", 2023, (149,)),
+    ("winter 2027 excludes none besides the fixed days", 2027, ()),
 )
 
 SEED = 2026
@@ -191,23 +191,32 @@ def check_accepted_share(tally, asked):
 
 
 def check_figure(query, call, right):
-    said = [fields(line).get(call) for line in ask([query])]
-    if said != [right]:
-        raise Failure(f"query {query}: the program said {said}, {call}={right} is right")
+    """The program says the figure, and so does the second program."""
+    said = [fields(line).get(call) for line in (*ask([query]), winters.line(*query))]
+    if said != [right, right]:
+        raise Failure(f"query {query}: the two programs said {said}, {call}={right} is right")
 
 
-def check_excluded_days(winter, easter_days):
-    """The winter excludes the six fixed days, these, and no others."""
-    lines = ask([(winter, day, 0) for day in range(days_in(winter))])
+def excluded_by(lines):
+    """The days that lines for every day of a winter exclude, by each of the two calls."""
     answers = [fields(line) for line in lines]
-    right = sorted(FIXED_DAYS | easter_days)
-    said = {
+    return {
         "excluded": [d for d, answer in enumerate(answers) if answer.get("excluded") == "0,1"],
         "tests": [d for d, answer in enumerate(answers) if answer.get("tests", "")[-2:] == ",1"],
     }
-    for call, excluded in said.items():
-        if excluded != right:
-            raise Failure(f"by {call} the program excludes {excluded}, {right} is right")
+
+
+def check_excluded_days(winter, easter_days):
+    """The winter excludes the six fixed days, these, and no others, by both programs."""
+    queries = [(winter, day, 0) for day in range(days_in(winter))]
+    right = sorted(FIXED_DAYS.union(easter_days))
+    for name, lines in (
+        ("the program", ask(queries)),
+        ("the second program", [winters.line(*query) for query in queries]),
+    ):
+        for call, excluded in excluded_by(lines).items():
+            if excluded != right:
+                raise Failure(f"by {call} {name} excludes {excluded}, {right} is right")
 
 
 def check_short_last_piece():

@@ -2,7 +2,7 @@
 
 The program answers and second/energies.py are asked the same queries and must
 print the same lines. Where a query was built for a line, the program must print it too.
-Document 01's own figures are looked for in the program's output.
+Document 01's own figures must be both programs' answers.
 The last line printed is "N passed, M failed".
 """
 
@@ -50,12 +50,20 @@ SAMPLE_READINGS = {
     38: (2500, 1000),
 }
 
-# "Winter 2026, event on day 34: reference 28, 27, 21, 20, 14" and the like: a list, the day
-# and its reference days.
+# Document 01's figures on reference days: a list, the day of an event and its reference days.
 REFERENCES = (
-    ("day 34", (), 34, (28, 27, 21, 20, 14)),
-    ("day 57", (), 57, (52, 51, 50, 47, 46)),
-    ("day 57 with an event on 51", (51, 16, 17), 57, (52, 50, 47, 46, 45)),
+    (
+        "winter 2026, event on day 34: reference 28, 27, 21, 20, 14",
+        (), 34, (28, 27, 21, 20, 14),
+    ),
+    (
+        "winter 2026, day 57: reference 52, 51, 50, 47, 46",
+        (), 57, (52, 51, 50, 47, 46),
+    ),
+    (
+        "winter 2026, day 57 with an event on 51: reference 52, 50, 47, 46, 45",
+        (51, 16, 17), 57, (52, 50, 47, 46, 45),
+    ),
 )
 
 SEED = 2026
@@ -534,9 +542,10 @@ def check_settled_share(asked, answered):
 
 
 def check_figure(query, right):
-    said = ask([query])
-    if said != [right]:
-        raise Failure(f"query {query}: the program said {said}, {right} is right")
+    """The program says the figure, and so does the second program."""
+    said = [*ask([query]), energies.line(query)]
+    if said != [right, right]:
+        raise Failure(f"query {query}: the two programs said {said}, {right} is right")
 
 
 def sample_query():
@@ -565,11 +574,29 @@ def limit_query(c):
     return with_readings(bare_query(2026, (38, 6, 9), 38, (6, 9)), readings)
 
 
+# Document 01's figures around the limit: C, and the energy that it gives.
+LIMIT_FIGURES = (
+    (
+        "H = W = 3, R = 126,000, B = 9,000, A = 12,000: C = 11,000 gives 720,000",
+        11_000, 720_000,
+    ),
+    (
+        "H = W = 3, R = 126,000, B = 9,000, A = 12,000: C = 10,999 gives 666,018, less for less",
+        10_999, 666_018,
+    ),
+)
+
 FIGURES = (
     ("the sample's line has code 0 and energy 81000", sample_query(), "0,0,0,81000"),
-    ("C = 11,000 gives 720,000", limit_query(11_000), "0,0,0,720000"),
-    ("C = 10,999 gives 666,018", limit_query(10_999), "0,0,0,666018"),
+    *((name, limit_query(c), f"0,0,0,{energy}") for name, c, energy in LIMIT_FIGURES),
 )
+
+
+def both_say(queries):
+    """What the program says to these queries, and the second program too."""
+    said = ask(queries)
+    check_same_lines(queries, said, [energies.line(query) for query in queries])
+    return said
 
 
 def check_references(numbers, day, right):
@@ -580,7 +607,7 @@ def check_references(numbers, day, right):
     others = [other for other in range(query.length // 24) if other != day]
     # The first and the last needed hour of each day.
     pairs = list(product(others, (1, 8)))
-    said, *changed = ask([query, *(with_readings(query, {pair: MISSING}) for pair in pairs)])
+    said, *changed = both_say([query, *(with_readings(query, {pair: MISSING}) for pair in pairs)])
     if not said.startswith("0,0,0,"):
         raise Failure(f"the program said {said} before a reading was missing")
     missing = {pair: f"0,21,{place_of(*pair)},0" for pair in pairs if pair[0] in right}
@@ -588,7 +615,8 @@ def check_references(numbers, day, right):
 
     tails = [right[nearest:] for nearest in range(len(right))]
     queries = [with_readings(query, {(other, 1): MISSING for other in tail}) for tail in tails]
-    check_same_lines(tails, ask(queries), [f"0,21,{place_of(tail[0], 1)},0" for tail in tails])
+    places = [f"0,21,{place_of(tail[0], 1)},0" for tail in tails]
+    check_same_lines(tails, both_say(queries), places)
 
 
 def stepped_book(query):
@@ -643,10 +671,7 @@ def all_tests():
         ("all that can happen to an energy happened", partial(check_all_happened, answered)),
         ("enough queries were settled", partial(check_settled_share, asked, answered)),
         *((name, partial(check_figure, *figure)) for name, *figure in FIGURES),
-        *(
-            (f"winter 2026, {name}: reference {right}", partial(check_references, *figure, right))
-            for name, *figure, right in REFERENCES
-        ),
+        *((name, partial(check_references, *figure)) for name, *figure in REFERENCES),
         ("empty input and a short last piece are passed over", check_short_last_piece),
     ]
 

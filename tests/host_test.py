@@ -29,6 +29,12 @@ EXPECTED = ROOT / "examples" / "host.expected"
 ALLOWED_NEEDS = {"memcpy", "memset", "memmove"}
 CALLS = {"ibisladder_check", "ibisladder_settle"}
 
+# A line of `readelf -SW`: number, name, kind, address, offset, size, size of an entry, flags
+# (W for writable, X for code), and three numbers more.
+SECTION = re.compile(
+    r" *\[ *\d+\] (\S+) +\S+ +[0-9a-f]+ [0-9a-f]+ ([0-9a-f]+) [0-9a-f]+ +(\w*) +\d+ +\d+ +\d+"
+)
+
 
 def check_header(compiler, language, standard):
     """The header compiles by itself, and twice in a row."""
@@ -79,6 +85,26 @@ def check_symbols():
     needed = symbols(ARCHIVE, "-u")
     if not needed <= ALLOWED_NEEDS:
         raise Failure(f"it needs {sorted(needed - ALLOWED_NEEDS)}")
+
+
+def sections(archive):
+    """The sections of the archive's objects: name, bytes and flags of each. `readelf` reads
+    objects of any processor."""
+    lines = run("readelf", "-SW", archive).decode().splitlines()
+    found = [SECTION.fullmatch(line) for line in lines]
+    return [(name, int(size, 16), flags) for name, size, flags in (m.groups() for m in found if m)]
+
+
+def check_no_state(archive):
+    """The archive keeps nothing from call to call: no section that a program may write to has
+    any bytes."""
+    need_archive()
+    rows = sections(archive)
+    if not any(size > 0 and "X" in flags for _, size, flags in rows):
+        raise Failure(f"no code was found in it: {rows}")
+    writable = [f"{name} of {size} bytes" for name, size, flags in rows if size and "W" in flags]
+    if writable:
+        raise Failure(f"it can write to {', '.join(writable)}")
 
 
 def flags_of(prefix):
@@ -136,6 +162,7 @@ def all_tests(folder):
         ("the header is C++98", partial(check_header, "c++", "c++", "c++98")),
         ("the header is C++17", partial(check_header, "c++", "c++", "c++17")),
         ("the archive has the two calls alone", check_symbols),
+        ("the archive has no writable state", partial(check_no_state, ARCHIVE)),
         ("the example with the delivered archive", partial(check_delivered, folder)),
         ("the example under sanitizers", partial(check_sanitized, folder)),
         ("make install, and the example with its flags", partial(check_installed, folder)),

@@ -27,6 +27,11 @@ def flat(listed):
     return tuple(number for notice in listed for number in notice)
 
 
+def notices_in(numbers):
+    """The notices of a list of whole triples."""
+    return list(zip(numbers[0::3], numbers[1::3], numbers[2::3]))
+
+
 @cache
 def open_days(winter, profile):
     """The days on which a notice may stand."""

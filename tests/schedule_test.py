@@ -2,7 +2,7 @@
 
 The program answers and second/notices.py are asked the same queries and must
 print the same lines. Where a list was built for a refusal number and a place, the program
-must give these too. Document 01's own figures are looked for in the program's output.
+must give these too. Document 01's own figures must be both programs' answers.
 The last line printed is "N passed, M failed".
 """
 
@@ -14,6 +14,7 @@ from functools import partial
 from itertools import combinations, pairwise, product
 from typing import NamedTuple
 
+from calendar_test import EASTER_DAYS
 from harness import (
     Failure, ask_layer, check_built_for, check_possible, check_same_lines, check_short_input,
     make_groups, run_tests, written_groups,
@@ -65,6 +66,9 @@ FIGURES = (
         "0,0 masks=38:983488 events=6+3,16+4",
     ),
 )
+
+# The day behind the last of the six fixed days.
+JANUARY_3 = 63
 
 EDGE_NUMBERS = (
     0, 5, 6, 9, 10, 11, 15, 16, 17, 19, 20, 21, 23, 24, 25, 29, 30, 150, 151, 152,
@@ -435,12 +439,25 @@ def check_hours_between(answered):
 
 
 def check_figure(query, right):
-    said = ask([query])
-    if said != [right]:
-        raise Failure(f"query {query}: the program said {said}, {right} is right")
+    """The program says the figure, and so does the second program."""
+    said = [*ask([query]), notices.line(*query)]
+    if said != [right, right]:
+        raise Failure(f"query {query}: the two programs said {said}, {right} is right")
 
 
-def check_hundred_hours(profile):
+def easter_lists(winter, easter_days):
+    """A notice of an hour on every day from 3 January on: the days that Easter excludes are
+    refused one after the other, and without them the list stands."""
+    days = list(range(JANUARY_3, len(winters.book_dates(winter))))
+    cases = []
+    for day in easter_days:
+        listed = flat((on, 6, 7) for on in days)
+        cases.append(Case(winter, 1, listed, (11, days.index(day))))
+        days.remove(day)
+    return [*cases, Case(winter, 1, flat((on, 6, 7) for on in days), ACCEPTED)]
+
+
+def hundred_hour_lists(profile):
     """97 hours and 3 stand; with one hour more in the last notice, or with the shortest
     notice possible behind it, they do not."""
     # Open under profile 2, so under both.
@@ -450,11 +467,39 @@ def check_hundred_hours(profile):
     stands = [*before, (last, 17, 20)]
     one_hour_more = [*before, (last, 16, 20)]
     one_notice_more = [*stands, (next_day, 16, 16 + min(PROFILES[profile].lengths))]
-    said = ask([(2026, profile, flat(one)) for one in (stands, one_hour_more, one_notice_more)])
-    given = [number_and_place(line) for line in said]
-    if given != [ACCEPTED, (18, 25), (18, 26)]:
-        raise Failure(f"the program said {given}")
-    hours = sum(mask.bit_count() for _, mask in pairs(said[0], "masks", ":"))
+    return [
+        Case(2026, profile, flat(stands), ACCEPTED),
+        Case(2026, profile, flat(one_hour_more), (18, 25)),
+        Case(2026, profile, flat(one_notice_more), (18, 26)),
+    ]
+
+
+# Document 01's figures on lists, as cases: those above, and some that take longer lists.
+EASTER_LISTS = tuple((name, easter_lists(*days)) for name, *days in EASTER_DAYS)
+HUNDRED_HOURS = tuple(
+    (f"profile {profile}: 100 hours stand; one more is 18", hundred_hour_lists(profile))
+    for profile in PROFILES
+)
+LIST_FIGURES = (
+    *((name, [Case(*query, number_and_place(line))]) for name, query, line in FIGURES),
+    *EASTER_LISTS,
+    *HUNDRED_HOURS,
+)
+
+
+def answered_cases(cases):
+    """What the program says to cases that were built for a number and a place: the same as
+    the second program, and these."""
+    answered = []
+    check_group(cases, answered)
+    check_numbers_and_places(len(cases), answered)
+    return [line for _, line in answered]
+
+
+def check_hundred_hours(cases):
+    """The first of these lists has just 100 hours by the program's masks."""
+    stands, *_ = answered_cases(cases)
+    hours = sum(mask.bit_count() for _, mask in pairs(stands, "masks", ":"))
     if hours != 100:
         raise Failure(f"the masks have {hours} hours")
 
@@ -487,8 +532,8 @@ def all_tests():
             partial(check_hours_between, answered),
         ),
         *((name, partial(check_figure, *figure)) for name, *figure in FIGURES),
-        ("profile 1: 100 hours stand, more is 18", partial(check_hundred_hours, 1)),
-        ("profile 2: 100 hours stand, more is 18", partial(check_hundred_hours, 2)),
+        *((name, partial(answered_cases, cases)) for name, cases in EASTER_LISTS),
+        *((name, partial(check_hundred_hours, cases)) for name, cases in HUNDRED_HOURS),
         ("empty input and a short last piece are passed over", check_short_last_piece),
     ]
 

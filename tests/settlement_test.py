@@ -3,7 +3,8 @@
 The driver in driver/ calls the list check and the settlement with lent bytes, and
 second/settlements.py is asked the same. The answers and every byte of the outputs must be
 the same, and nothing else may be touched. Where a call was built for an answer, the library
-must give it too. Document 01's own figures are looked for in the library's output.
+must give it too. Document 01's own figures must be the library's answers and the second
+program's.
 The last line printed is "N passed, M failed".
 """
 
@@ -17,8 +18,8 @@ from itertools import accumulate, product
 from c_calls import (
     LINE_BYTES, LONGEST_PART, Check, Settle, ask, build_driver, output_before,
 )
-from energy_test import sample_query, stepped_book
 from event_books import EVENT_HOURS, FAULTS, FAULTY_BOOKS, LIMIT, RELATIONS, far_above_limit
+from figure_calls import CHECK_FIGURES, SETTLEMENT_FIGURES
 from harness import Failure, check_built_for, check_possible, check_same_lines, run_tests
 from notice_lists import (
     FARTHEST, WAYS, a_few, beside_excluded_days, empty_list, first_and_last_days, flat,
@@ -32,8 +33,8 @@ from second import energies, notices, settlements, winters
 from second.energies import HIGHEST_READING, MISSING
 from second.notices import PROFILES
 from settlement_books import (
-    LARGEST_ENERGY, Saving, drawn_book, even_book, full_mornings, largest_book, level_book,
-    lowered, needed_places, only_needed, packed,
+    LARGEST_ENERGY, drawn_book, full_mornings, largest_book, lowered, needed_places,
+    only_needed, packed,
 )
 from settlement_calls import (
     ACCEPTED, ANYTHING, EDGE_PRICES, LONGEST_LIST, NOTICE_BYTES, WRONG_PRICES, Case, built_lines,
@@ -571,44 +572,12 @@ def check_all_happened(answered):
         raise Failure(f"never happened: {', '.join(never)}")
 
 
-def check_figure(query, right):
-    """The library accepts, its lines are these, and nothing else is written."""
-    (given,) = ask([query])
-    written = settlements.written(right)
-    output = written + output_before(query.fill, query.length)[len(written):]
-    if given != (0, 0, output):
-        raise Failure(f"{query}: {given}, not {right}")
-
-
-def figure_of_savings(listed, below, price):
-    """A settlement of a level book in winter 2026."""
-    book = packed(level_book(2026, listed, [Saving(one) for one in below]))
-    return Settle(2026, book, price, packed(flat(listed)), LINE_BYTES * len(listed))
-
-
-# Document 01's figures. 10 Wh are an energy of 180, and 7,140 Wh one of 128,520.
-FIGURES = (
-    (
-        "the sample: energy 81000, 234 cents",
-        Settle(2026, packed(stepped_book(sample_query())), 51_967, packed((38, 6, 9)), LINE_BYTES),
-        ((0, 0, 81_000, 234),),
-    ),
-    (
-        "three lines of 180 at 50,000: cents 1, 0, 1",
-        figure_of_savings([(38, 6, 9), (38, 16, 20), (39, 7, 8)], (10, 10, 10), 50_000),
-        ((0, 0, 180, 1), (0, 0, 180, 0), (0, 0, 180, 1)),
-    ),
-    (
-        "energy 128,520 at 50,000: 357",
-        figure_of_savings([(38, 6, 9)], (7_140,), 50_000),
-        ((0, 0, 128_520, 357),),
-    ),
-    (
-        "the empty list is accepted and writes nothing",
-        Settle(2026, packed(even_book(2026, MISSING)), 50_000, b"", 64),
-        (),
-    ),
-)
+def check_figure(cases):
+    """The library gives what the second program gives, to the last byte, and that is what the
+    figure says."""
+    answered = []
+    check_group(cases, answered)
+    check_built(len(cases), answered)
 
 
 def all_tests():
@@ -632,7 +601,10 @@ def all_tests():
         ("what should stay was not touched", partial(check_untouched, answered)),
         ("every run of lines is worth its cents", partial(check_runs, answered)),
         ("all that can happen to cents happened", partial(check_all_happened, answered)),
-        *((name, partial(check_figure, *figure)) for name, *figure in FIGURES),
+        *(
+            (name, partial(check_figure, cases))
+            for name, cases in (*SETTLEMENT_FIGURES, *CHECK_FIGURES)
+        ),
     ]
 
 

@@ -2,21 +2,24 @@
 
 The program and second/statements.py are given the same texts and must print the same bytes.
 Where a text was built for an answer, the program must give it too. Document 01's sample is
-looked for letter by letter. The last line printed is "N passed, M failed".
+looked for letter by letter, and its figures are asked for as texts.
+The last line printed is "N passed, M failed".
 """
 
+import random
 import sys
 from collections import Counter, defaultdict
 from functools import partial
 
+from figure_calls import SETTLEMENT_FIGURES
 from harness import (
     Failure, check_built_for, check_possible, check_same_lines, make_groups, run_tests,
 )
 from second import winters
 from settlement_test import check_worth
-from statement_cases import GROUPS, sample_parts
-from statement_runs import answers, read_statement, said
-from statement_texts import SAMPLE, SAMPLE_STATEMENT, shown
+from statement_cases import GROUPS, SEED, sample_parts
+from statement_runs import answers, read_statement, said, said_and_right
+from statement_texts import SAMPLE, SAMPLE_STATEMENT, SMALLEST, shown, text_of_call
 
 # The numbers that a text can get: those of its own rules, and those that the settlement
 # can give. A text's book always has the right length and its output the room it needs, so
@@ -139,12 +142,38 @@ def check_sample():
         raise Failure(f"the sample's parts make {shown(made)}")
 
 
+def check_empty_list():
+    """Both programs accept a text without notices, and its total is 0."""
+    right = b"winter=2026\nprice=1\nevents=0\nenergy=0\ntotal=0\n"
+    for printed in said_and_right(SMALLEST):
+        if printed != right:
+            raise Failure(f"a program prints {shown(printed)}")
+
+
+def check_figure(cases):
+    """The program prints what the second program prints, and that is what the figure says."""
+    answered = []
+    check_group(cases, answered)
+    check_built(len(cases), answered)
+
+
+def figure_texts():
+    """Document 01's figures as texts that ask for the same as the calls from C."""
+    source = random.Random(SEED)
+    return [
+        (f"{name}, as a text", [text_of_call(source, case) for case in cases])
+        for name, cases in SETTLEMENT_FIGURES
+    ]
+
+
 def all_tests():
     """Every test, as its name and a check that raises Failure."""
     groups, asked, built = make_groups(GROUPS)
     answered = []
     return [
         ("document 01's sample", check_sample),
+        ("empty list: accepted, total 0", check_empty_list),
+        *((name, partial(check_figure, cases)) for name, cases in figure_texts()),
         *(
             (f"{name}: {len(cases)} texts", partial(check_group, cases, answered))
             for name, cases in groups

@@ -8,7 +8,7 @@ those of a book, and hours whose reading is missing are not listed. A notice is 
 from itertools import groupby, pairwise, product
 from typing import NamedTuple
 
-from notice_lists import hundred_notices
+from notice_lists import hundred_notices, notices_in
 from second import settlements, winters
 from second.energies import HOURS, MISSING, place_of
 from second.statements import LARGEST_NUMBER, LONGEST_TEXT
@@ -163,8 +163,7 @@ def drawn_parts(source, winter, price, listed, book):
 
 def lent_notices(lent):
     """The notices of a lent list of whole triples."""
-    numbers = settlements.lent_numbers(lent)
-    return list(zip(numbers[0::3], numbers[1::3], numbers[2::3]))
+    return notices_in(settlements.lent_numbers(lent))
 
 
 def text_of_call(source, case):
