@@ -22,7 +22,7 @@ lib: $(library) $(header)
 
 # The archive is there only where the crate is proved. What was proved since the sources changed is not proved again.
 $(proved): crates.txt $(shell find crates -type f)
-	rt staticlib host
+	scripts/prove --library host
 
 $(library): $(proved)
 	$(INSTALL) -D -m 644 $< $@
@@ -41,7 +41,7 @@ test:
 
 bench: $(proved)
 	bench/run
-	rt check statement
+	scripts/prove statement
 	bench/run-statement
 
 clean:
