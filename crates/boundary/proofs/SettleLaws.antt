@@ -13,7 +13,7 @@ use Rattle.money.specs.Lines.{eventAt, linesTo}
 use Rattle.money.specs.Refusals.{callRows}
 use Rattle.money.specs.Settlement.{refusedWith, settlement, written}
 use Rattle.money.specs.declared.settlement.Settlement.{Settlement}
-use Rattle.schedule.specs.Notices.{countOf}
+use Rattle.notices.specs.Notices.{countOf}
 use Rattle.wire.proofs.ReadLaws.{numbers-long, read-whole}
 use Rattle.wire.proofs.WriteLaws.{written-whole}
 use Rattle.wire.specs.Bytes.{numbersRead, bytesWritten}

@@ -9,8 +9,8 @@ use Rattle.laws.specs.Answer.{Answer}
 use Rattle.money.specs.Lines.{eventAt, linesTo}
 use Rattle.money.specs.Settlement.{settlement}
 use Rattle.money.specs.declared.settlement.Settlement.{Settlement}
+use Rattle.notices.specs.Notices.{countOf}
 use Rattle.schedule.specs.ListCheck.{checkAnswer}
-use Rattle.schedule.specs.Notices.{countOf}
 use Rattle.wire.specs.Bytes.{bytesTo}
 use Rattle.boundary.specs.Lent.{decoded}
 

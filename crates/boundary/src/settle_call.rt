@@ -2,7 +2,7 @@
 ghost use mathlib.Core.Path.{_≡_};
 ghost use Prim.Native.Nat.{_*_, _/_, _≤_};
 ghost use lib.ListN.{length};
-ghost use Rattle.schedule.specs.Notices.{countOf};
+ghost use Rattle.notices.specs.Notices.{countOf};
 ghost use Rattle.boundary.specs.Calls.{settleCall, settleBytes};
 ghost use Rattle.boundary.specs.Whole.{Lengths, wholeNumbers, wholeCall, wholeBytes};
 use crate::lent::numbers_in;

@@ -19,13 +19,13 @@ use Rattle.calendar.specs.declared.answers.Days.the-variants.{Are}
 use Rattle.calendar.specs.declared.answers.Days.{Days}
 use Rattle.laws.proofs.Refusals.{refused, kept}
 use Rattle.laws.specs.Answer.{Answer, refusal}
-use Rattle.schedule.proofs.Lawful.{Morning, Evening, hours-iff}
-use Rattle.schedule.specs.Profiles.{figuresOf}
-use Rattle.schedule.specs.Rules.{badHours}
-use Rattle.schedule.specs.Sane.{sane}
-use Rattle.schedule.specs.declared.notices.Notice.{Notice}
-use Rattle.schedule.specs.declared.profiles.Figures.{Figures}
-use Rattle.schedule.specs.declared.profiles.Profile.the-variants.{Credit}
+use Rattle.notices.proofs.HourLaws.{Morning, Evening, hours-iff}
+use Rattle.notices.specs.Hours.{badHours}
+use Rattle.notices.specs.Profiles.{figuresOf}
+use Rattle.notices.specs.Sane.{sane}
+use Rattle.notices.specs.declared.notices.Notice.{Notice}
+use Rattle.notices.specs.declared.profiles.Figures.{Figures}
+use Rattle.notices.specs.declared.profiles.Profile.the-variants.{Credit}
 use Rattle.energy.specs.Asked.{askedBy}
 use Rattle.energy.specs.HoursOf.{Spans}
 use Rattle.energy.specs.Line.{lineOf, eventAnswer}
@@ -33,7 +33,7 @@ use Rattle.energy.specs.Line.{lineOf, eventAnswer}
 -- hours that rule 13 does not refuse under the winter credit lie in a band
 pub in-band : (f : Figures) (n : Notice) → f ≡ figuresOf Credit → badHours f n ≡ false → Spans (n .start) (n .end)
 in-band f n fe e =
-    let p = hours-iff 0 (figuresOf Credit) n .0 (rw (← fe) e) in
+    let p = hours-iff (figuresOf Credit) n .0 (rw (← fe) e) in
     let ok = sane Credit in
     let some = p .0 in
     let ten = ok .morning in

@@ -16,7 +16,7 @@ use Rattle.calendar.specs.Book.{noPart}
 use Rattle.laws.proofs.Every.{Every, left, right, joined, imply, map-of}
 use Rattle.laws.proofs.Refusals.{passed}
 use Rattle.laws.specs.Answer.{Answer, given}
-use Rattle.schedule.specs.declared.notices.Notice.{Notice}
+use Rattle.notices.specs.declared.notices.Notice.{Notice}
 use Rattle.energy.specs.Asked.{Asked, askedBy, hoursFrom, warmUp, placesOf, placesOn, needed}
 use Rattle.energy.specs.Energy.{sumOver, drawnAt, trimmedAt, energyOf}
 use Rattle.energy.specs.HoursOf.{Spans}

@@ -13,10 +13,11 @@ use Rattle.calendar.proofs.Promise.{winter-range, period-day}
 use Rattle.calendar.specs.Winters.{days, inPeriod}
 use Rattle.laws.proofs.Refusals.{kept, either-way}
 use Rattle.laws.specs.Answer.{Answer, given, refuse}
-use Rattle.schedule.proofs.Lawful.{Sound, hours-iff}
-use Rattle.schedule.specs.Profiles.{figuresOf}
-use Rattle.schedule.specs.declared.notices.Notice.{Notice}
-use Rattle.schedule.specs.declared.profiles.Profile.the-variants.{Credit}
+use Rattle.notices.proofs.HourLaws.{hours-iff}
+use Rattle.notices.specs.Profiles.{figuresOf}
+use Rattle.notices.specs.declared.notices.Notice.{Notice}
+use Rattle.notices.specs.declared.profiles.Profile.the-variants.{Credit}
+use Rattle.schedule.proofs.Lawful.{Sound}
 use Rattle.energy.specs.Asked.{Asked, askedBy, needed}
 use Rattle.energy.specs.Energy.{energyOf}
 use Rattle.energy.specs.Line.{settled, linePaper, byFault, lineOf, eventAnswer}
@@ -87,5 +88,5 @@ event-given y book masks n w b s =
     let day : not (inPeriod y (n .day)) ≡ false = rw (period-day y (n .day) .1 (s .period)) in
     let length-right : not (eqb (length book) (24 * days y)) ≡ false = rw (eq-eqb (length book) (24 * days y) b) in
     let e : lineOf book (askedBy y masks n) ≡ eventAnswer y book masks n =
-    kept _ (winter-range y .1 w) (kept _ length-right (kept _ day (kept _ (hours-iff y (figuresOf Credit) n .1 (s .some-hour, s .band)) refl))) in
+    kept _ (winter-range y .1 w) (kept _ length-right (kept _ day (kept _ (hours-iff (figuresOf Credit) n .1 (s .some-hour, s .band)) refl))) in
     rw (← e) (line-three book (askedBy y masks n))

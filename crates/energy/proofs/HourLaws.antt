@@ -7,7 +7,7 @@ use mathlib.Core.Path.{_≡_, refl, ap, _∙_}
 use native.Mathlib.Omega.{arith}
 use lib.ListN.{length, getD, take}
 use borrow.Author.Tests.{lt-ltb, le-ltb}
-use Rattle.schedule.specs.Profiles.{eveningStart}
+use Rattle.notices.specs.Profiles.{eveningStart}
 use Rattle.energy.specs.Asked.{hoursFrom, warmUp}
 use Rattle.energy.specs.Held.{span}
 use Rattle.energy.specs.HoursOf.{Spans, HoursFor}

@@ -14,7 +14,7 @@ use Rattle.calendar.specs.Book.{noPart}
 use Rattle.laws.proofs.Every.{at}
 use Rattle.laws.proofs.Refusals.{refused, kept}
 use Rattle.laws.specs.Answer.{Answer}
-use Rattle.schedule.specs.declared.notices.Notice.{Notice}
+use Rattle.notices.specs.declared.notices.Notice.{Notice}
 use Rattle.energy.specs.Asked.{askedBy, placesOn, needed}
 use Rattle.energy.specs.Energy.{energyOf}
 use Rattle.energy.specs.EnergyIn.{heldEnergy, Ready}

@@ -4,8 +4,8 @@ use Prim.Native.Nat.{ℕ, zero, suc, _+_, _-_, _*_}
 use mathlib.Core.Bool.{cond}
 use mathlib.Core.List.{List, [], _∷_, _++_, map}
 use lib.Dec.{ltb}
-use Rattle.schedule.specs.Profiles.{eveningStart}
-use Rattle.schedule.specs.declared.notices.Notice.{Notice}
+use Rattle.notices.specs.Profiles.{eveningStart}
+use Rattle.notices.specs.declared.notices.Notice.{Notice}
 use Rattle.energy.specs.ReferenceDays.{referenceDays}
 
 pub record Asked : Type 0 where

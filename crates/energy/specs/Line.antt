@@ -7,10 +7,10 @@ use lib.Dec.{ltb, eqb}
 use lib.ListN.{length}
 use Rattle.calendar.specs.Winters.{noWinter, days, inPeriod}
 use Rattle.laws.specs.Answer.{Answer, given, refusal, refuse}
-use Rattle.schedule.specs.Profiles.{figuresOf}
-use Rattle.schedule.specs.Rules.{badHours}
-use Rattle.schedule.specs.declared.notices.Notice.{Notice}
-use Rattle.schedule.specs.declared.profiles.Profile.the-variants.{Credit}
+use Rattle.notices.specs.Hours.{badHours}
+use Rattle.notices.specs.Profiles.{figuresOf}
+use Rattle.notices.specs.declared.notices.Notice.{Notice}
+use Rattle.notices.specs.declared.profiles.Profile.the-variants.{Credit}
 use Rattle.energy.specs.Asked.{Asked, askedBy, needed}
 use Rattle.energy.specs.Energy.{energyOf}
 use Rattle.energy.specs.Readings.{firstFault}

@@ -1,7 +1,7 @@
 // The hours of an event: its warm-up hours, and then its event hours.
 ghost use Prim.Native.Nat.{_-_};
 ghost use Rattle.energy.specs.HoursOf.{Spans, HoursFor};
-use schedule::Profile;
+use notices::Profile;
 
 // The first `warm` of `at` are the warm-up hours, and those up to `all` the event hours.
 pub struct Hours {

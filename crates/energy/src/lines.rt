@@ -16,8 +16,8 @@ use crate::spared::spared;
 use crate::sums::drawn_sum;
 use crate::sums::trimmed_sum;
 use calendar::Days;
-use schedule::Notice;
-use schedule::Profile;
+use notices::Notice;
+use notices::Profile;
 
 // What an event comes to: its spared energy in eighteenths of a Wh, or why it is left unsettled, or why the call is refused.
 pub enum Line {
@@ -87,7 +87,7 @@ pub fn settle_event(winter: u32, book: &[u32], masks: &[u32; 152], n: Notice) ->
     if !calendar::in_period(winter, n.day) {
         return Line::OutsidePeriod;
     }
-    if schedule::bad_hours(Profile::Credit.figures(), n) {
+    if notices::bad_hours(Profile::Credit.figures(), n) {
         return Line::BadHours;
     }
     line_in(winter, book, masks, n)

@@ -12,8 +12,8 @@ use lib.Dec.{eqb}
 use lib.ListN.{length, getD, set, replicate, length-set, length-replicate}
 use lib.Seq.{getD-set-same, getD-set-other}
 use borrow.Author.Tests.{eqb-true, eqb-false}
-use Rattle.schedule.specs.Notices.{countOf, noticeAt}
-use Rattle.schedule.specs.declared.notices.Notice.{Notice}
+use Rattle.notices.specs.Notices.{countOf, noticeAt}
+use Rattle.notices.specs.declared.notices.Notice.{Notice}
 use Rattle.event_hours.specs.Days.{marksNone, hoursIn, withHours, masksTo, masksOf, dayMask}
 use Rattle.event_hours.proofs.DayLaws.{Marks, marks, marks-some, with-none, with-some}
 use Rattle.event_hours.proofs.HoursMask.{mask-small}

@@ -10,8 +10,8 @@ use lib.Dec.{leb, ltb}
 use lib.ListN.{getD, set, replicate}
 use borrow.Author.Tests.{ltb-false, leb-false, le-ltb, lt-leb}
 use Rattle.laws.proofs.Guards.{neither}
-use Rattle.schedule.specs.Notices.{countOf, noticeAt}
-use Rattle.schedule.specs.declared.notices.Notice.{Notice}
+use Rattle.notices.specs.Notices.{countOf, noticeAt}
+use Rattle.notices.specs.declared.notices.Notice.{Notice}
 use Rattle.event_hours.specs.Days.{marksNone, hoursIn, withHours, masksTo, masksOf}
 
 -- a notice that names hours of a day that a book can have

@@ -5,8 +5,8 @@ use mathlib.Core.List.{List}
 use mathlib.Core.Logic.{_↔_}
 use mathlib.Core.Path.{_≡_}
 use native.Mathlib.Omega.{arith}
+use Rattle.notices.specs.Notices.{countOf, noticeAt}
 use Rattle.schedule.proofs.Standing.{Standing}
-use Rattle.schedule.specs.Notices.{countOf, noticeAt}
 use Rattle.event_hours.specs.Days.{dayMask}
 use Rattle.event_hours.proofs.Bits.{bit-zero, same-bits}
 use Rattle.event_hours.proofs.WhichBits.{Covers, which-bits}

@@ -8,9 +8,9 @@ use native.Mathlib.Omega.{arith}
 use lib.Bits.{bitAnd, and-mask}
 use lib.Dec.{eqb}
 use borrow.Author.Tests.{le-ltb, lt-ltb}
+use Rattle.notices.specs.Profiles.{morningStart, eveningStart, eveningEnd}
+use Rattle.notices.specs.declared.notices.Notice.{Notice}
 use Rattle.schedule.proofs.Standing.{InBand}
-use Rattle.schedule.specs.Profiles.{morningStart, eveningStart, eveningEnd}
-use Rattle.schedule.specs.declared.notices.Notice.{Notice}
 use Rattle.event_hours.specs.Hours.{bitAt, hoursMask, hasHour, bandMask}
 use Rattle.event_hours.proofs.HoursMask.{hours-bit}
 

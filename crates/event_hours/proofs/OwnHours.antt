@@ -7,8 +7,8 @@ use mathlib.Core.Logic.{⊎-elim}
 use mathlib.Core.Path.{_≡_, refl, _∙_, ap}
 use native.Mathlib.Omega.{arith}
 use lib.Count.{ones, trailingZeros}
+use Rattle.notices.specs.Notices.{countOf, noticeAt}
 use Rattle.schedule.proofs.Standing.{Standing}
-use Rattle.schedule.specs.Notices.{countOf, noticeAt}
 use Rattle.event_hours.specs.Days.{hoursIn, dayMask, eventHours}
 use Rattle.event_hours.specs.Hours.{bitAt, hoursMask, bandMask, ownHours}
 use Rattle.event_hours.proofs.Bits.{Within, and-both, same-bits}

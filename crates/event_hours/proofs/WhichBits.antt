@@ -13,9 +13,9 @@ use lib.ListN.{length, getD}
 use borrow.Author.Tests.{eqb-true, eq-eqb, lt-ltb}
 use Rattle.calendar.proofs.Bounds.{days-range}
 use Rattle.laws.proofs.Guards.{both}
+use Rattle.notices.specs.Notices.{countOf, noticeAt}
+use Rattle.notices.specs.declared.notices.Notice.{Notice}
 use Rattle.schedule.proofs.Standing.{Standing}
-use Rattle.schedule.specs.Notices.{countOf, noticeAt}
-use Rattle.schedule.specs.declared.notices.Notice.{Notice}
 use Rattle.event_hours.specs.Days.{hoursIn, withHours, masksTo, masksOf, dayMask}
 use Rattle.event_hours.specs.Hours.{bitAt, hasHour}
 use Rattle.event_hours.proofs.AllDays.{Kept, Added, added, kept-or-added, length-to, zero-at}

@@ -7,8 +7,8 @@ use mathlib.Core.List.{List}
 use lib.Bits.{bitOr}
 use lib.Dec.{leb, ltb}
 use lib.ListN.{getD, set, replicate}
-use Rattle.schedule.specs.Notices.{countOf, noticeAt}
-use Rattle.schedule.specs.declared.notices.Notice.{Notice}
+use Rattle.notices.specs.Notices.{countOf, noticeAt}
+use Rattle.notices.specs.declared.notices.Notice.{Notice}
 use Rattle.event_hours.specs.Hours.{hoursMask, ownHours}
 
 -- a notice that names no hours of a day that a book can have; no list with such a notice is accepted

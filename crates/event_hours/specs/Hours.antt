@@ -6,7 +6,7 @@ use Prim.Native.Nat.{ℕ, _-_, _/_, _%_, _^_}
 use mathlib.Core.Bool.{Bool, cond, _&&_}
 use lib.Bits.{bitAnd}
 use lib.Dec.{ltb, eqb}
-use Rattle.schedule.specs.Profiles.{morningStart, eveningStart, eveningEnd}
+use Rattle.notices.specs.Profiles.{morningStart, eveningStart, eveningEnd}
 
 -- bit h of a mask
 abbrev pub bitAt : ℕ → ℕ → ℕ

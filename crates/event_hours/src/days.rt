@@ -2,7 +2,7 @@
 ghost use mathlib.Core.Path.{_≡_};
 ghost use Rattle.event_hours.specs.Days.{marksNone, withHours, masksOf};
 use crate::hours::hours_mask;
-use schedule::Notice;
+use notices::Notice;
 
 // Whether a notice names no hours of a day that a book can have. An accepted list has no such notice, but any list may be lent.
 fn marks_none(n: Notice) -> bool
@@ -29,7 +29,7 @@ pub fn masks_of(list: &[u32]) -> [u32; 152]
     let mut masks = [0u32; 152];
     let mut k: usize = 0;
     while k < list.len() / 3 {
-        let n = schedule::notice_at(list, k);
+        let n = notices::notice_at(list, k);
         mark_hours(&mut masks, n);
         k += 1;
     }

@@ -3,7 +3,7 @@ ghost use mathlib.Core.Path.{_≡_};
 ghost use Prim.Native.Nat.{_≤_};
 ghost use lib.Count.{ones, trailingZeros};
 ghost use Rattle.event_hours.specs.Hours.{hoursMask, hasHour, bandMask, ownHours};
-use schedule::Profile;
+use notices::Profile;
 
 // The bits of the hours from start to end - 1. A shift past the day's 24 bits could lose its bit, so the callers rule it out.
 pub(crate) fn hours_mask(start: u32, end: u32) -> u32

@@ -28,13 +28,14 @@ use Rattle.money.specs.Lines.{eventBy, energyTo, centsAt, lineAt, linesTo}
 use Rattle.money.specs.Refusals.{badBook, badPrice, shortOutput, callRows, refusalOf}
 use Rattle.money.specs.Settlement.{settledBy, writtenBy, settlement, written}
 use Rattle.money.specs.Worth.{roundedWorth}
+use Rattle.notices.specs.Hours.{outsideBands, badHours, badLength}
+use Rattle.notices.specs.Notices.{noticeAt, hoursOf, hoursTo}
+use Rattle.notices.specs.Profiles.{figuresOf, named}
 use Rattle.numerals.specs.Decimal.{digitsIn, decimal, field}
 use Rattle.numerals.specs.Lines.{fields, lineBytes, bytesOfLines}
 use Rattle.printing.specs.Sheet.{refusedLines, noticeLine, noticeLines, statementLines}
 use Rattle.schedule.specs.ListCheck.{ownRows, listRows, noticeRows, noticeAnswer, sofarAt, answerAt, fromNotice, badList, listAnswer, checkAnswer}
-use Rattle.schedule.specs.Notices.{noticeAt, hoursOf, hoursTo}
-use Rattle.schedule.specs.Profiles.{figuresOf, named}
-use Rattle.schedule.specs.Rules.{outsidePeriod, onExcludedDay, barredWeekend, outsideBands, badHours, badLength, startsBefore, sameBand, overLimit}
+use Rattle.schedule.specs.Rules.{outsidePeriod, onExcludedDay, barredWeekend, startsBefore, sameBand, overLimit}
 use Rattle.text.specs.Statement.{settlementBytes, settledBytes, valuesBytes, formBytes, statementOf}
 use Rattle.figures.specs.CalendarFigures.{alsoFrom, alsoExcluded, calendarFigures}
 use Rattle.figures.specs.EnergyFigures.{sampleDay, sampleBook, sampleList, energyFigures}

@@ -14,3 +14,6 @@ both a b e = and-eq-true-iff a b .0 e
 
 pub neither : (a b : Bool) → (a || b) ≡ false → (a ≡ false) × (b ≡ false)
 neither a b e = or-eq-false-eq-eq-false-and-eq-false a b .0 e
+
+pub no-fault : (a b : Bool) → a ≡ false → b ≡ false → (a || b) ≡ false
+no-fault a b p q = or-eq-false-eq-eq-false-and-eq-false a b .1 (p, q)

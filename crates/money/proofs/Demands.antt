@@ -13,9 +13,9 @@ use Rattle.energy.specs.Line.{eventAnswer}
 use Rattle.event_hours.specs.Days.{masksOf}
 use Rattle.laws.specs.Answer.{given}
 use Rattle.laws.specs.Table.{isRefusal}
+use Rattle.notices.specs.Notices.{countOf, noticeAt}
+use Rattle.notices.specs.declared.profiles.Profile.the-variants.{Credit}
 use Rattle.schedule.proofs.Accepted.{accepted-iff-lawful}
-use Rattle.schedule.specs.Notices.{countOf, noticeAt}
-use Rattle.schedule.specs.declared.profiles.Profile.the-variants.{Credit}
 use Rattle.money.specs.Lines.{eventBy, eventAt, centsAt, linesTo}
 use Rattle.money.specs.Printed.{codeIn, placeIn, energyIn, centsIn, runOf}
 use Rattle.money.specs.Refusals.{refusalOf}

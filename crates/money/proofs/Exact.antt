@@ -10,12 +10,12 @@ use lib.ListN.{length, getD}
 use Rattle.calendar.specs.Winters.{days}
 use Rattle.laws.proofs.Tables.{BrokenAt, first-broken, else-either}
 use Rattle.laws.specs.Table.{Row, firstOf, isRefusal}
+use Rattle.notices.specs.Notices.{countOf}
+use Rattle.notices.specs.Profiles.{figuresOf}
+use Rattle.notices.specs.declared.profiles.Profile.the-variants.{Credit}
 use Rattle.schedule.proofs.Accepted.{Lawful, accepted-iff-lawful}
 use Rattle.schedule.proofs.FirstRefusal.{WhyRefused, first-refusal}
 use Rattle.schedule.specs.ListCheck.{checkAnswer}
-use Rattle.schedule.specs.Notices.{countOf}
-use Rattle.schedule.specs.Profiles.{figuresOf}
-use Rattle.schedule.specs.declared.profiles.Profile.the-variants.{Credit}
 use Rattle.money.specs.Refusals.{callRows, refusalOf}
 use Rattle.money.specs.Settlement.{refusedWith, settlement, written}
 use Rattle.money.proofs.RefusalLaws.{RightCall, call-right, settlement-right, list-accepted, right-accepted}

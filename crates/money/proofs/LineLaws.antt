@@ -11,7 +11,7 @@ use lib.ListN.{length, getD, drop, length-append, List·getD-append}
 use lib.Seq.{sets, getD-append-add}
 use Rattle.energy.proofs.Given.{answer-most}
 use Rattle.laws.proofs.Stores.{sets-front}
-use Rattle.schedule.specs.Notices.{noticeAt}
+use Rattle.notices.specs.Notices.{noticeAt}
 use Rattle.money.specs.Lines.{eventBy, energyTo, centsAt, lineAt, linesTo}
 use Rattle.money.specs.Worth.{roundedWorth}
 use Rattle.money.specs.declared.lines.Event.{Event}

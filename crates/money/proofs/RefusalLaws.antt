@@ -18,11 +18,11 @@ use Rattle.laws.proofs.Guards.{neither}
 use Rattle.laws.proofs.Tables.{Numbered, row-stops, row-goes, rows-end, accepted-none, none-accepted, not-refused, else-stop, else-go, else-none, Within, within-first, within-else}
 use Rattle.laws.specs.Answer.{Answer}
 use Rattle.laws.specs.Table.{accepted, refusalAt, firstOf, isRefusal}
+use Rattle.notices.specs.Notices.{countOf}
 use Rattle.schedule.proofs.Accepted.{whole-test, check-accepted}
 use Rattle.schedule.proofs.Bounds.{check-within}
 use Rattle.schedule.proofs.Walk.{list-fits}
 use Rattle.schedule.specs.ListCheck.{badList, checkAnswer}
-use Rattle.schedule.specs.Notices.{countOf}
 use Rattle.money.specs.Refusals.{badBook, badPrice, shortOutput, callRows, refusalOf}
 
 module _ (w readings p numbers room : ℕ) where

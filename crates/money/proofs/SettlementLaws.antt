@@ -11,7 +11,7 @@ use borrow.Author.Tests.{ne-eqb}
 use Rattle.event_hours.specs.Days.{masksOf}
 use Rattle.laws.specs.Answer.{Answer}
 use Rattle.laws.specs.Table.{refusalAt, firstOf, isRefusal}
-use Rattle.schedule.specs.Notices.{countOf}
+use Rattle.notices.specs.Notices.{countOf}
 use Rattle.money.specs.Lines.{eventBy, eventAt, energyTo, linesTo}
 use Rattle.money.specs.Refusals.{callRows, refusalOf}
 use Rattle.money.specs.Settlement.{refusedWith, totalsOf, linesIn, settledBy, writtenBy, settlement, written}

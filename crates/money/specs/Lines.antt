@@ -6,7 +6,7 @@ use lib.ListN.{getD}
 use Rattle.energy.specs.Line.{eventAnswer}
 use Rattle.event_hours.specs.Days.{masksOf}
 use Rattle.laws.specs.Answer.{Answer}
-use Rattle.schedule.specs.Notices.{noticeAt}
+use Rattle.notices.specs.Notices.{noticeAt}
 use Rattle.money.specs.Worth.{roundedWorth}
 use Rattle.money.specs.declared.lines.Event.{Event}
 

@@ -6,7 +6,7 @@ use mathlib.Core.List.{List, _++_}
 use lib.ListN.{length, getD, drop}
 use Rattle.laws.specs.Answer.{Answer}
 use Rattle.laws.specs.Table.{isRefusal}
-use Rattle.schedule.specs.Notices.{countOf}
+use Rattle.notices.specs.Notices.{countOf}
 use Rattle.money.specs.Lines.{eventAt, energyTo, linesTo}
 use Rattle.money.specs.Refusals.{refusalOf}
 use Rattle.money.specs.Worth.{roundedWorth}

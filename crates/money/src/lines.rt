@@ -49,7 +49,7 @@ fn event_by(winter: u32, book: &[u32], masks: &[u32; 152], list: &[u32], k: usiz
     ensures { λ r. ⌜ r ≡ eventBy winter (now (book .entry)) (now (masks .entry)) (now (list .entry)) k ⌝ }
     ensures { λ r. ⌜ r .energy ≤ 1500000000 ⌝ }
 {
-    let n = schedule::notice_at(list, k);
+    let n = notices::notice_at(list, k);
     event_of(energy::settle_event(winter, book, masks, n))
 }
 

@@ -2,7 +2,7 @@
 ghost use mathlib.Core.Path.{_≡_};
 ghost use Prim.Native.Nat.{_*_, _≤_};
 ghost use lib.ListN.{length};
-ghost use Rattle.schedule.specs.Notices.{countOf};
+ghost use Rattle.notices.specs.Notices.{countOf};
 ghost use Rattle.money.specs.Lines.{eventAt};
 ghost use Rattle.money.specs.Settlement.{totalsOf, linesIn, settlement, written};
 use crate::lines::put_lines;

@@ -10,9 +10,9 @@ use native.Mathlib.Nat.{eq-or-lt-of-le, le-of-suc-le-suc}
 use native.Mathlib.Omega.{arith}
 use lib.ListN.{length, take, drop, length-append}
 use lib.Seq.{take-at, drop-at}
+use Rattle.notices.specs.Notices.{countOf}
 use Rattle.numerals.specs.Numbers.{numbersIn, numbersOfLines, plainKeys}
 use Rattle.numerals.proofs.ReadBack.{read-back, above-plain, plain-append, numbers-none, numbers-one, numbers-more, numbers-append}
-use Rattle.schedule.specs.Notices.{countOf}
 use Rattle.printing.specs.Room.{printed, printedCount}
 use Rattle.printing.specs.Sheet.{refusedLines, refusedBytes, noticeLine, noticeLines, statementLines, statementBytes}
 

@@ -3,8 +3,8 @@
 use Prim.Native.Nat.{ℕ}
 use mathlib.Core.List.{List, [], _∷_}
 use Rattle.money.specs.Printed.{codeIn, placeIn, energyIn, centsIn}
+use Rattle.notices.specs.declared.notices.Notice.{Notice}
 use Rattle.numerals.specs.Lines.{Line, line}
-use Rattle.schedule.specs.declared.notices.Notice.{Notice}
 use Rattle.printing.specs.declared.lines.Settled.{Settled}
 
 -- those of the notice at index k

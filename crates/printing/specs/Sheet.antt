@@ -2,8 +2,8 @@
 -- Assumes nothing.
 use Prim.Native.Nat.{ℕ, zero, suc}
 use mathlib.Core.List.{List, [], _∷_, _++_}
+use Rattle.notices.specs.Notices.{countOf, noticeAt}
 use Rattle.numerals.specs.Lines.{Line, line, bytesOfLines}
-use Rattle.schedule.specs.Notices.{countOf, noticeAt}
 use Rattle.printing.specs.Settled.{settledIn, lineFor}
 
 -- "A refused text prints only the line `refused=number,place`, ended the same way."

@@ -11,7 +11,7 @@ ghost use Rattle.printing.specs.Settled.{settledIn, lineFor};
 ghost use Rattle.printing.specs.Sheet.{noticeLines};
 use crate::bytes::put_field;
 use crate::bytes::put_key;
-use schedule::Notice;
+use notices::Notice;
 
 // What a settlement holds of a notice.
 pub struct Settled {
@@ -82,7 +82,7 @@ pub(crate) fn put_lines(out: &mut [u8], at: usize, list: &[u32], lines: &[u64], 
     let mut next = at;
     let mut k: usize = 0;
     while k < n {
-        let notice = schedule::notice_at(list, k);
+        let notice = notices::notice_at(list, k);
         let settled = settled_at(lines, k);
         next = put_line(out, next, notice, settled);
         k += 1;

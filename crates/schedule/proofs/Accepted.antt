@@ -15,17 +15,19 @@ use Rattle.calendar.specs.Winters.{noWinter}
 use Rattle.laws.proofs.Refusals.{kept}
 use Rattle.laws.proofs.Tables.{refuse-accepted, refuse-none, else-go, else-none, else-accepted}
 use Rattle.laws.specs.Table.{accepted, refusalAt, isRefusal}
+use Rattle.notices.proofs.HourLaws.{hours-iff, long-iff}
+use Rattle.notices.proofs.NoticeLaws.{hours-none, hours-next, hours-grow}
+use Rattle.notices.proofs.ProfileLaws.{named-number}
+use Rattle.notices.specs.Notices.{countOf, noNotice, noticeAt, hoursOf, hoursTo}
+use Rattle.notices.specs.Profiles.{figuresOf, profileNumber, named}
+use Rattle.notices.specs.declared.notices.Notice.{Notice}
+use Rattle.notices.specs.declared.profiles.Figures.{Figures}
+use Rattle.notices.specs.declared.profiles.Named.the-variants.{Is, NoProfile}
+use Rattle.notices.specs.declared.profiles.Named.{Named}
+use Rattle.notices.specs.declared.profiles.Profile.{Profile}
 use Rattle.schedule.specs.ListCheck.{sofarAt, answerAt, fromNotice, badList, listAnswer, namedAnswer, checkAnswer}
-use Rattle.schedule.specs.Notices.{countOf, noNotice, noticeAt, hoursOf, hoursTo}
-use Rattle.schedule.specs.Profiles.{figuresOf, profileNumber, named}
-use Rattle.schedule.specs.declared.notices.Notice.{Notice}
-use Rattle.schedule.specs.declared.profiles.Figures.{Figures}
-use Rattle.schedule.specs.declared.profiles.Named.the-variants.{Is, NoProfile}
-use Rattle.schedule.specs.declared.profiles.Named.{Named}
-use Rattle.schedule.specs.declared.profiles.Profile.the-variants.{Credit, PowerOption}
-use Rattle.schedule.specs.declared.profiles.Profile.{Profile}
 use Rattle.schedule.specs.declared.rules.Sofar.{Sofar}
-use Rattle.schedule.proofs.Lawful.{Sound, Alike, Follows, period-iff, open-iff, week-iff, hours-iff, long-iff, order-iff, apart-iff, limit-iff}
+use Rattle.schedule.proofs.Lawful.{Sound, Alike, Follows, period-iff, open-iff, week-iff, order-iff, apart-iff, limit-iff}
 use Rattle.schedule.proofs.Walk.{Passed, passed, passed-accepted, sofar-hours, list-fits}
 
 -- a list that keeps every rule: every notice by itself, every notice against the one before it, and the hours together
@@ -37,13 +39,6 @@ pub record Lawful (w : ℕ) (f : Figures) (l : List ℕ) : Type 0 where
   pub follows : (k : ℕ) → suc k < countOf l → Follows (noticeAt l k) (noticeAt l (suc k))
   pub hours : hoursTo l (countOf l) ≤ f .hours
 
--- hours only grow
-pub hours-grow : (l : List ℕ) (j i : ℕ) → i ≤ j → hoursTo l i ≤ hoursTo l j
-unfolding hoursTo
-hours-grow l zero i h = let e : i ≡ 0 = omega arith in rw e (omega arith)
-hours-grow l (suc j) i h =
-    ⊎-elim (λ (e : i ≡ suc j). rw e (omega arith)) (λ (e : i < suc j). omega (arith, hours-grow l j i (omega arith))) (eq-or-lt-of-le h)
-
 -- what a notice has passed, and what it keeps
 
 module _ (w : ℕ) (f : Figures) (so : Sofar) (n : Notice) where
@@ -53,9 +48,9 @@ module _ (w : ℕ) (f : Figures) (so : Sofar) (n : Notice) where
         period = period-iff w f n .0 (t .period);
         open-day = open-iff w f n .0 (t .open-day);
         week = week-iff w f n .0 (t .week);
-        some-hour = hours-iff w f n .0 (t .hours) .0;
-        band = hours-iff w f n .0 (t .hours) .1;
-        long = long-iff w f n .0 (t .long);
+        some-hour = hours-iff f n .0 (t .hours) .0;
+        band = hours-iff f n .0 (t .hours) .1;
+        long = long-iff f n .0 (t .long);
       }
 
   sound-passed : Sound w f n → Follows (so .last) n → so .hours + hoursOf n ≤ f .hours → Passed w f so n
@@ -64,8 +59,8 @@ module _ (w : ℕ) (f : Figures) (so : Sofar) (n : Notice) where
         period = period-iff w f n .1 (s .period);
         open-day = open-iff w f n .1 (s .open-day);
         week = week-iff w f n .1 (s .week);
-        hours = hours-iff w f n .1 (s .some-hour, s .band);
-        long = long-iff w f n .1 (s .long);
+        hours = hours-iff f n .1 (s .some-hour, s .band);
+        long = long-iff f n .1 (s .long);
         order = order-iff (so .last) n .1 (o .order);
         apart = apart-iff (so .last) n .1 (o .apart);
         limit = limit-iff f so n .1 h;
@@ -82,12 +77,10 @@ module _ (w : ℕ) (f : Figures) (l : List ℕ) where
   AllPassed n = (k : ℕ) → k < n → Passed w f (sofarAt l k) (noticeAt l k)
 
   hours-at : (k : ℕ) → Passed w f (sofarAt l k) (noticeAt l k) → hoursTo l (suc k) ≤ f .hours
-  unfolding hoursTo
-  hours-at k t = rw (← sofar-hours l k) (limit-iff f (sofarAt l k) (noticeAt l k) .0 (t .limit))
+  hours-at k t = rw (hours-next l k, ← sofar-hours l k) (limit-iff f (sofarAt l k) (noticeAt l k) .0 (t .limit))
 
   all-hours : (n : ℕ) → AllPassed n → hoursTo l n ≤ f .hours
-  unfolding hoursTo
-  all-hours zero t = omega arith
+  all-hours zero t = omega (arith, hours-none l)
   all-hours (suc n) t = hours-at n (t n (omega arith))
 
   follows-at : (k : ℕ) → Passed w f (sofarAt l (suc k)) (noticeAt l (suc k)) → Follows (noticeAt l k) (noticeAt l (suc k))
@@ -97,12 +90,12 @@ module _ (w : ℕ) (f : Figures) (l : List ℕ) where
 
   passed-at : (n : ℕ) → ((k : ℕ) → k < n → Sound w f (noticeAt l k)) → ((k : ℕ) → suc k < n → Follows (noticeAt l k) (noticeAt l (suc k)))
       → hoursTo l n ≤ f .hours → AllPassed n
-  unfolding sofarAt hoursTo
+  unfolding sofarAt
   passed-at n each follows hours zero h =
       sound-passed w f (sofarAt l zero) (noticeAt l zero) (each zero h) (first-follows w f (noticeAt l zero) (each zero h))
-      (omega (arith, hours-grow l n 1 (omega arith)))
+      (omega (arith, hours-none l, hours-next l zero, hours-grow l n 1 (omega arith)))
   passed-at n each follows hours (suc k) h =
-      sound-passed w f (sofarAt l (suc k)) (noticeAt l (suc k)) (each (suc k) h) (follows k h) (omega (arith, hours-grow l n (suc (suc k)) (omega arith)))
+      sound-passed w f (sofarAt l (suc k)) (noticeAt l (suc k)) (each (suc k) h) (follows k h) (omega (arith, hours-next l (suc k), hours-grow l n (suc (suc k)) (omega arith)))
 
 -- the walk accepts exactly when every notice passes
 
@@ -155,11 +148,6 @@ module _ (w : ℕ) (f : Figures) (l : List ℕ) where
   unfolding listAnswer
   lawful-list r =
       sym (kept (refusalAt 4 0) (whole-test (length l) (r .whole) (r .few)) (sym (passed-all w f l (countOf l) (passed-at w f l (countOf l) (r .each) (r .follows) (r .hours)))))
-
-named-number : (p : Profile) → named (profileNumber p) ≡ Is p
-unfolding named
-named-number Credit = refl
-named-number PowerOption = refl
 
 -- DEMAND 2
 pub accepted-iff-lawful : (w : ℕ) (p : Profile) (l : List ℕ) → (checkAnswer w (profileNumber p) l ≡ accepted) ↔ Lawful w (figuresOf p) l

@@ -10,13 +10,13 @@ use Rattle.calendar.specs.Winters.{noWinter}
 use Rattle.laws.proofs.Refusals.{refused, either-way}
 use Rattle.laws.proofs.Tables.{Within, within-refuse, within-else, within-first}
 use Rattle.laws.specs.Table.{refusalAt}
+use Rattle.notices.specs.Notices.{countOf, noticeAt}
+use Rattle.notices.specs.Profiles.{figuresOf, named}
+use Rattle.notices.specs.declared.profiles.Figures.{Figures}
+use Rattle.notices.specs.declared.profiles.Named.the-variants.{Is, NoProfile}
+use Rattle.notices.specs.declared.profiles.Named.{Named}
 use Rattle.schedule.specs.ListCheck.{ownRows, listRows, noticeRows, noticeAnswer, sofarAt, answerAt, fromNotice, badList, listAnswer, namedAnswer, checkAnswer}
-use Rattle.schedule.specs.Notices.{countOf, noticeAt}
-use Rattle.schedule.specs.Profiles.{figuresOf, named}
 use Rattle.schedule.specs.Verdicts.{numberOf, placeOf, verdictPaper}
-use Rattle.schedule.specs.declared.profiles.Figures.{Figures}
-use Rattle.schedule.specs.declared.profiles.Named.the-variants.{Is, NoProfile}
-use Rattle.schedule.specs.declared.profiles.Named.{Named}
 use Rattle.schedule.specs.declared.verdicts.Verdict.{Verdict}
 use Rattle.schedule.proofs.Walk.{list-fits}
 

@@ -14,13 +14,13 @@ use Rattle.laws.proofs.Refusals.{either-way}
 use Rattle.laws.proofs.Tables.{BrokenAt, first-broken, else-stop, else-go}
 use Rattle.laws.specs.Answer.{Answer}
 use Rattle.laws.specs.Table.{refusalAt, isRefusal, orElse}
+use Rattle.notices.specs.Notices.{countOf, noticeAt}
+use Rattle.notices.specs.Profiles.{figuresOf, named}
+use Rattle.notices.specs.declared.profiles.Figures.{Figures}
+use Rattle.notices.specs.declared.profiles.Named.the-variants.{Is, NoProfile}
+use Rattle.notices.specs.declared.profiles.Named.{Named}
+use Rattle.notices.specs.declared.profiles.Profile.{Profile}
 use Rattle.schedule.specs.ListCheck.{noticeRows, noticeAnswer, sofarAt, answerAt, fromNotice, badList, listAnswer, namedAnswer, checkAnswer}
-use Rattle.schedule.specs.Notices.{countOf, noticeAt}
-use Rattle.schedule.specs.Profiles.{figuresOf, named}
-use Rattle.schedule.specs.declared.profiles.Figures.{Figures}
-use Rattle.schedule.specs.declared.profiles.Named.the-variants.{Is, NoProfile}
-use Rattle.schedule.specs.declared.profiles.Named.{Named}
-use Rattle.schedule.specs.declared.profiles.Profile.{Profile}
 use Rattle.schedule.proofs.Walk.{Passed, passed}
 
 -- the first notice that breaks a rule, from index k on of n: those before it pass, and its first broken row gives the number

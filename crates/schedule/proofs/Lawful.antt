@@ -7,27 +7,22 @@ use mathlib.Core.Logic.{_⊎_, inl, inr, ⊎-elim, _↔_}
 use mathlib.Core.Path.{_≡_, refl, sym, _∙_}
 use native.Mathlib.Nat.{eq-or-lt-of-le}
 use native.Mathlib.Omega.{arith}
-use lib.Dec.{leb, ltb, eqb}
-use borrow.Author.Tests.{ltb-false, leb-false, eqb-true, eq-eqb, ne-eqb, le-ltb, lt-leb, not-true, not-false}
+use lib.Dec.{ltb, eqb}
+use borrow.Author.Tests.{ltb-false, eqb-true, eq-eqb, ne-eqb, le-ltb, not-true, not-false}
 use Rattle.calendar.proofs.Promise.{period-day}
 use Rattle.calendar.specs.Excluded.{excluded}
 use Rattle.calendar.specs.Weekdays.{weekend}
 use Rattle.calendar.specs.Winters.{days, inPeriod}
-use Rattle.laws.proofs.Guards.{both, neither}
-use Rattle.schedule.specs.Notices.{hoursOf}
-use Rattle.schedule.specs.Profiles.{morningStart, eveningStart, eveningEnd}
-use Rattle.schedule.specs.Rules.{outsidePeriod, onExcludedDay, barredWeekend, outsideBands, badHours, badLength, startsBefore, sameBand, overLimit}
-use Rattle.schedule.specs.declared.notices.Notice.{Notice}
-use Rattle.schedule.specs.declared.profiles.Figures.{Figures}
+use Rattle.laws.proofs.Guards.{both, neither, no-fault}
+use Rattle.notices.proofs.HourLaws.{Morning, Evening}
+use Rattle.notices.specs.Notices.{hoursOf}
+use Rattle.notices.specs.Profiles.{eveningStart}
+use Rattle.notices.specs.declared.notices.Notice.{Notice}
+use Rattle.notices.specs.declared.profiles.Figures.{Figures}
+use Rattle.schedule.specs.Rules.{outsidePeriod, onExcludedDay, barredWeekend, startsBefore, sameBand, overLimit}
 use Rattle.schedule.specs.declared.rules.Sofar.{Sofar}
 
 -- the rules
-
-abbrev pub Morning : Figures → Notice → Type 0
-Morning f n = (morningStart ≤ n .start) × (n .end ≤ f .morning)
-
-abbrev pub Evening : Notice → Type 0
-Evening n = (eveningStart ≤ n .start) × (n .end ≤ eveningEnd)
 
 -- 10 to 14: a notice by itself
 pub record Sound (w : ℕ) (f : Figures) (n : Notice) : Type 0 where
@@ -53,9 +48,6 @@ pub record Follows (last n : Notice) : Type 0 where
 
 -- tests and what they say
 
-no-fault : (a b : Bool) → a ≡ false → b ≡ false → (a || b) ≡ false
-no-fault a b p q = rw (p, q)
-
 unless : (a b : Bool) → (a && b) ≡ false → a ≡ true → b ≡ false
 unless true b h e = h
 unless false b h e = absurd (false≢true e)
@@ -63,10 +55,6 @@ unless false b h e = absurd (false≢true e)
 unless-test : (a b : Bool) → (a ≡ true → b ≡ false) → (a && b) ≡ false
 unless-test true b h = h refl
 unless-test false b h = refl
-
-one-holds : (a b : Bool) → (a && b) ≡ false → (a ≡ false) ⊎ (b ≡ false)
-one-holds true b h = inr h
-one-holds false b h = inl refl
 
 not-so : (x : Bool) → (x ≡ true → ⊥) → x ≡ false
 not-so true h = absurd (h refl)
@@ -94,41 +82,6 @@ module _ (w : ℕ) (f : Figures) (n : Notice) where
   week-iff = (
     λ h (e : f .weekends ≡ false). unless (not (f .weekends)) (weekend w (n .day)) h (rw e),
     λ r. unless-test (not (f .weekends)) (weekend w (n .day)) (λ e. r (not-true (f .weekends) e)),
-  )
-
-  in-band : outsideBands f n ≡ false → Morning f n ⊎ Evening n
-  unfolding outsideBands
-  in-band h =
-      ⊎-elim
-      (λ a. let p = neither (ltb (n .start) 6) (ltb (f .morning) (n .end)) a in inl (ltb-false (n .start) 6 (p .0), ltb-false (f .morning) (n .end) (p .1)))
-      (λ a. let p = neither (ltb (n .start) 16) (ltb 20 (n .end)) a in inr (ltb-false (n .start) 16 (p .0), ltb-false 20 (n .end) (p .1)))
-      (one-holds (ltb (n .start) 6 || ltb (f .morning) (n .end)) (ltb (n .start) 16 || ltb 20 (n .end)) h)
-
-  in-band-test : Morning f n ⊎ Evening n → outsideBands f n ≡ false
-  unfolding outsideBands
-  in-band-test r =
-      ⊎-elim
-      (λ (m : Morning f n). rw (le-ltb (n .start) 6 (m .0), le-ltb (f .morning) (n .end) (m .1)))
-      (λ (m : Evening n). rw (le-ltb (n .start) 16 (m .0), le-ltb 20 (n .end) (m .1)) (nothing (ltb (n .start) 6 || ltb (f .morning) (n .end))))
-      r
-    where
-      nothing : (b : Bool) → (b && false) ≡ false
-      nothing true = refl
-      nothing false = refl
-
-  pub hours-iff : (badHours f n ≡ false) ↔ ((n .start < n .end) × (Morning f n ⊎ Evening n))
-  unfolding badHours
-  hours-iff = (
-    λ h. let p = neither (leb (n .end) (n .start)) (outsideBands f n) h in (leb-false (n .end) (n .start) (p .0), in-band (p .1)),
-    λ r. no-fault (leb (n .end) (n .start)) (outsideBands f n) (lt-leb (n .end) (n .start) (r .0)) (in-band-test (r .1)),
-  )
-
-  pub long-iff : (badLength f n ≡ false) ↔ ((f .shortest ≤ n .end - n .start) × (n .end - n .start ≤ f .longest))
-  unfolding badLength hoursOf
-  long-iff = (
-    λ h. let p = neither (ltb (n .end - n .start) (f .shortest)) (ltb (f .longest) (n .end - n .start)) h in
-        (ltb-false (n .end - n .start) (f .shortest) (p .0), ltb-false (f .longest) (n .end - n .start) (p .1)),
-    λ r. no-fault (ltb (n .end - n .start) (f .shortest)) (ltb (f .longest) (n .end - n .start)) (le-ltb (n .end - n .start) (f .shortest) (r .0)) (le-ltb (f .longest) (n .end - n .start) (r .1)),
   )
 
 -- a notice against the one before it, rule by rule

@@ -1,26 +1,21 @@
--- Laws of rules that work on a callee's result, and of the profile that a number names: one for each way out.
+-- Laws of a rule that works on a callee's result, and of the profile that a number names: one for each way out.
 -- Assumes nothing.
 use Prim.Native.Nat.{ℕ, _+_}
-use mathlib.Core.Bool.{_||_}
 use mathlib.Core.List.{List}
 use mathlib.Core.Path.{_≡_}
 use lib.Dec.{ltb}
 use Rattle.laws.specs.Answer.{Answer}
 use Rattle.laws.specs.Table.{refusalAt}
+use Rattle.notices.specs.Notices.{hoursOf}
+use Rattle.notices.specs.Profiles.{figuresOf, named}
+use Rattle.notices.specs.declared.notices.Notice.{Notice}
+use Rattle.notices.specs.declared.profiles.Figures.{Figures}
+use Rattle.notices.specs.declared.profiles.Named.the-variants.{Is, NoProfile}
+use Rattle.notices.specs.declared.profiles.Named.{Named}
+use Rattle.notices.specs.declared.profiles.Profile.{Profile}
 use Rattle.schedule.specs.ListCheck.{listAnswer, namedAnswer}
-use Rattle.schedule.specs.Notices.{hoursOf}
-use Rattle.schedule.specs.Profiles.{figuresOf, named}
-use Rattle.schedule.specs.Rules.{badLength, overLimit}
-use Rattle.schedule.specs.declared.notices.Notice.{Notice}
-use Rattle.schedule.specs.declared.profiles.Figures.{Figures}
-use Rattle.schedule.specs.declared.profiles.Named.{Named}
-use Rattle.schedule.specs.declared.profiles.Named.the-variants.{Is, NoProfile}
-use Rattle.schedule.specs.declared.profiles.Profile.{Profile}
+use Rattle.schedule.specs.Rules.{overLimit}
 use Rattle.schedule.specs.declared.rules.Sofar.{Sofar}
-
-pub length-is : (f : Figures) (n : Notice) (h : ℕ) → h ≡ hoursOf n → (ltb h (f .shortest) || ltb (f .longest) h) ≡ badLength f n
-unfolding badLength
-length-is f n h e = rw e
 
 pub limit-is : (f : Figures) (so : Sofar) (n : Notice) (h : ℕ) → h ≡ hoursOf n → ltb (f .hours) (so .hours + h) ≡ overLimit f so n
 unfolding overLimit

@@ -7,8 +7,8 @@ use mathlib.Core.Logic.{_⊎_}
 use mathlib.Core.Path.{_≡_}
 use Rattle.calendar.specs.Excluded.{excluded}
 use Rattle.calendar.specs.Winters.{days}
-use Rattle.schedule.specs.Notices.{countOf, noticeAt, hoursTo}
-use Rattle.schedule.specs.declared.notices.Notice.{Notice}
+use Rattle.notices.specs.Notices.{countOf, noticeAt, hoursTo}
+use Rattle.notices.specs.declared.notices.Notice.{Notice}
 
 -- the event's hours lie inside the morning band, or inside the evening band
 abbrev pub InBand : Notice → Type 0

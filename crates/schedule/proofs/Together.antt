@@ -14,18 +14,20 @@ use Rattle.calendar.specs.Winters.{noWinter}
 use Rattle.laws.proofs.Tables.{refuse-accepted}
 use Rattle.laws.specs.Answer.{Answer}
 use Rattle.laws.specs.Table.{accepted}
+use Rattle.notices.proofs.HourLaws.{Morning, Evening}
+use Rattle.notices.proofs.ProfileLaws.{power-option-morning}
+use Rattle.notices.specs.Notices.{countOf, noticeAt}
+use Rattle.notices.specs.Profiles.{figuresOf, named}
+use Rattle.notices.specs.Sane.{Sane, sane}
+use Rattle.notices.specs.declared.notices.Notice.{Notice}
+use Rattle.notices.specs.declared.profiles.Figures.{Figures}
+use Rattle.notices.specs.declared.profiles.Named.the-variants.{Is, NoProfile}
+use Rattle.notices.specs.declared.profiles.Named.{Named}
+use Rattle.notices.specs.declared.profiles.Profile.the-variants.{PowerOption}
+use Rattle.notices.specs.declared.profiles.Profile.{Profile}
 use Rattle.schedule.specs.ListCheck.{namedAnswer, checkAnswer}
-use Rattle.schedule.specs.Notices.{countOf, noticeAt}
-use Rattle.schedule.specs.Profiles.{figuresOf, named}
-use Rattle.schedule.specs.Sane.{Sane, sane}
-use Rattle.schedule.specs.declared.notices.Notice.{Notice}
-use Rattle.schedule.specs.declared.profiles.Figures.{Figures}
-use Rattle.schedule.specs.declared.profiles.Named.the-variants.{Is, NoProfile}
-use Rattle.schedule.specs.declared.profiles.Named.{Named}
-use Rattle.schedule.specs.declared.profiles.Profile.the-variants.{PowerOption}
-use Rattle.schedule.specs.declared.profiles.Profile.{Profile}
 use Rattle.schedule.proofs.Accepted.{Lawful, list-lawful, accepted-iff-lawful}
-use Rattle.schedule.proofs.Lawful.{Morning, Evening, Sound, Alike, Follows}
+use Rattle.schedule.proofs.Lawful.{Sound, Alike, Follows}
 use Rattle.schedule.proofs.Standing.{Stands, Later, Standing}
 
 -- by a profile's figures: a later day, or the same day, the first inside the morning band and the second in the evening
@@ -124,7 +126,6 @@ accepted-standing w q l e =
 -- the start of any later one
 pub seven-hours-apart : (w : ℕ) (l : List ℕ) → checkAnswer w 2 l ≡ accepted → (i j : ℕ) → i < j → j < countOf l
     → 24 * noticeAt l i .day + noticeAt l i .end + 7 ≤ 24 * noticeAt l j .day + noticeAt l j .start
-unfolding figuresOf
 seven-hours-apart w l e i j a b =
     let r = accepted-iff-lawful w PowerOption l .0 e in
     let m = noticeAt l i in
@@ -135,5 +136,5 @@ seven-hours-apart w l e i j a b =
     let starts : 6 ≤ n .start = ⊎-elim (λ (x : (6 ≤ n .start) × (n .end ≤ 10)). x .0) (λ (x : (16 ≤ n .start) × (n .end ≤ 20)). omega arith) (t .in-band) in
     ⊎-elim
     (λ (x : m .day < n .day). omega arith)
-    (λ (x : (m .day ≡ n .day) × (m .end ≤ 9) × (16 ≤ n .start)). omega arith)
+    (λ (x : (m .day ≡ n .day) × (m .end ≤ figuresOf PowerOption .morning) × (16 ≤ n .start)). omega (arith, power-option-morning))
     (any-two w (figuresOf PowerOption) (sane PowerOption) l r j i a b)

@@ -13,12 +13,15 @@ use Rattle.laws.proofs.Guards.{neither}
 use Rattle.laws.proofs.Tables.{Numbered, NoneBroken, accepted-none, none-accepted, not-refused, else-stop, else-go, in-parts}
 use Rattle.laws.specs.Answer.{Answer}
 use Rattle.laws.specs.Table.{accepted, firstOf, isRefusal, orElse}
+use Rattle.notices.proofs.HourLaws.{hours-fit}
+use Rattle.notices.proofs.NoticeLaws.{hours-none, hours-next}
+use Rattle.notices.specs.Hours.{badHours, badLength}
+use Rattle.notices.specs.Notices.{noticeAt, hoursOf, hoursTo}
+use Rattle.notices.specs.Sane.{Sane}
+use Rattle.notices.specs.declared.notices.Notice.{Notice}
+use Rattle.notices.specs.declared.profiles.Figures.{Figures}
 use Rattle.schedule.specs.ListCheck.{ownRows, listRows, noticeRows, noticeAnswer, nothingBefore, afterNotice, sofarAt, answerAt, fromNotice, badList}
-use Rattle.schedule.specs.Notices.{noticeAt, hoursOf, hoursTo}
-use Rattle.schedule.specs.Rules.{outsidePeriod, onExcludedDay, barredWeekend, badHours, badLength, startsBefore, sameBand, overLimit}
-use Rattle.schedule.specs.Sane.{Sane}
-use Rattle.schedule.specs.declared.notices.Notice.{Notice}
-use Rattle.schedule.specs.declared.profiles.Figures.{Figures}
+use Rattle.schedule.specs.Rules.{outsidePeriod, onExcludedDay, barredWeekend, startsBefore, sameBand, overLimit}
 use Rattle.schedule.specs.declared.rules.Sofar.{Sofar}
 
 -- a notice is accepted exactly when none of its rows is broken
@@ -73,15 +76,9 @@ module _ (w : ℕ) (f : Figures) (so : Sofar) (n : Notice) where
   unfolding noticeAnswer
   passed-accepted k t = none-accepted k (noticeRows w f so n) (passed-none t)
 
--- the sums of a notice that is not refused fit
+-- the sum of a notice that is not refused fits
 
 module _ (w : ℕ) (f : Figures) (so : Sofar) (n : Notice) (ok : Sane f) (t : Passed w f so n) where
-  pub hours-fit : hoursOf n ≤ 4
-  unfolding badLength
-  hours-fit =
-      let p = neither (ltb (hoursOf n) (f .shortest)) (ltb (f .longest) (hoursOf n)) (t .long) in
-      omega (arith, ltb-false (f .longest) (hoursOf n) (p .1), ok .longest)
-
   pub sum-fits : so .hours + hoursOf n ≤ 100
   unfolding overLimit
   sum-fits = omega (arith, ltb-false (f .hours) (so .hours + hoursOf n) (t .limit), ok .hours)
@@ -117,13 +114,13 @@ module _ (w : ℕ) (f : Figures) (l : List ℕ) (n k : ℕ) where
   from-done h = let e : n - k ≡ 0 = omega arith in rw e
 
 pub sofar-hours : (l : List ℕ) (k : ℕ) → sofarAt l k .hours ≡ hoursTo l k
-unfolding sofarAt hoursTo
-sofar-hours l zero = refl
+unfolding sofarAt
+sofar-hours l zero = sym (hours-none l)
 sofar-hours l (suc k) = refl
 
 pub sofar-next : (l : List ℕ) (k : ℕ) → afterNotice (sofarAt l k) (noticeAt l k) ≡ sofarAt l (k + 1)
-unfolding afterNotice sofarAt hoursTo
-sofar-next l k = rw (add-one k, sofar-hours l k)
+unfolding afterNotice sofarAt
+sofar-next l k = rw (add-one k, sofar-hours l k, hours-next l k)
 
 -- the loop, over plain variables
 
@@ -155,7 +152,7 @@ module _ {w : ℕ} {f : Figures} {l : List ℕ} {n : ℕ} {so : Sofar} {k : ℕ}
     passed-here t = passed w f so m k (ap isRefusal (sym said) ∙ t)
 
     pub held-fits : Sane f → isRefusal a ≡ false → (so .hours ≤ 100) × (hoursOf m ≤ 24)
-    held-fits ok t = (h .small, omega (arith, hours-fit w f so m ok (passed-here t)))
+    held-fits ok t = (h .small, omega (arith, hours-fit f m ok (passed-here t .long)))
 
     pub held-next : {next : Sofar} → Sane f → k < n → isRefusal a ≡ false → next ≡ afterNotice so m → Held w f l n next (k + 1)
     unfolding afterNotice

@@ -10,13 +10,14 @@ use lib.ListN.{length}
 use Rattle.calendar.specs.Winters.{noWinter}
 use Rattle.laws.specs.Answer.{Answer, refuse}
 use Rattle.laws.specs.Table.{accepted, refusalAt, Row, row, firstOf, orElse}
-use Rattle.schedule.specs.Notices.{countOf, noNotice, noticeAt, hoursOf, hoursTo}
-use Rattle.schedule.specs.Profiles.{figuresOf, named}
-use Rattle.schedule.specs.Rules.{outsidePeriod, onExcludedDay, barredWeekend, badHours, badLength, startsBefore, sameBand, overLimit}
-use Rattle.schedule.specs.declared.notices.Notice.{Notice}
-use Rattle.schedule.specs.declared.profiles.Figures.{Figures}
-use Rattle.schedule.specs.declared.profiles.Named.the-variants.{Is, NoProfile}
-use Rattle.schedule.specs.declared.profiles.Named.{Named}
+use Rattle.notices.specs.Hours.{badHours, badLength}
+use Rattle.notices.specs.Notices.{countOf, noNotice, noticeAt, hoursOf, hoursTo}
+use Rattle.notices.specs.Profiles.{figuresOf, named}
+use Rattle.notices.specs.declared.notices.Notice.{Notice}
+use Rattle.notices.specs.declared.profiles.Figures.{Figures}
+use Rattle.notices.specs.declared.profiles.Named.the-variants.{Is, NoProfile}
+use Rattle.notices.specs.declared.profiles.Named.{Named}
+use Rattle.schedule.specs.Rules.{outsidePeriod, onExcludedDay, barredWeekend, startsBefore, sameBand, overLimit}
 use Rattle.schedule.specs.declared.rules.Sofar.{Sofar}
 
 -- the rules of a notice by itself

@@ -2,14 +2,14 @@
 -- Assumes nothing.
 use Prim.Native.Nat.{ℕ, _+_}
 use mathlib.Core.Bool.{Bool, not, Bool·beq, _&&_, _||_}
-use lib.Dec.{leb, ltb, eqb}
+use lib.Dec.{ltb, eqb}
 use Rattle.calendar.specs.Excluded.{excluded}
 use Rattle.calendar.specs.Weekdays.{weekend}
 use Rattle.calendar.specs.Winters.{inPeriod}
-use Rattle.schedule.specs.Notices.{hoursOf}
-use Rattle.schedule.specs.Profiles.{morningStart, eveningStart, eveningEnd}
-use Rattle.schedule.specs.declared.notices.Notice.{Notice}
-use Rattle.schedule.specs.declared.profiles.Figures.{Figures}
+use Rattle.notices.specs.Notices.{hoursOf}
+use Rattle.notices.specs.Profiles.{eveningStart}
+use Rattle.notices.specs.declared.notices.Notice.{Notice}
+use Rattle.notices.specs.declared.profiles.Figures.{Figures}
 use Rattle.schedule.specs.declared.rules.Sofar.{Sofar}
 
 -- "10: day outside the winter period"
@@ -23,19 +23,6 @@ onExcludedDay w n = excluded w (n .day)
 -- "12: weekend under profile 2", by the profile's figures: a weekend where it has none
 unfoldable pub barredWeekend : Figures → ℕ → Notice → Bool
 barredWeekend f w n = not (f .weekends) && weekend w (n .day)
-
--- not inside the morning band, and not inside the evening band
-unfoldable pub outsideBands : Figures → Notice → Bool
-outsideBands f n =
-    (ltb (n .start) morningStart || ltb (f .morning) (n .end)) && (ltb (n .start) eveningStart || ltb eveningEnd (n .end))
-
--- "13: hours empty, reversed or not inside one band"
-unfoldable pub badHours : Figures → Notice → Bool
-badHours f n = leb (n .end) (n .start) || outsideBands f n
-
--- "14: length not allowed"
-unfoldable pub badLength : Figures → Notice → Bool
-badLength f n = ltb (hoursOf n) (f .shortest) || ltb (f .longest) (hoursOf n)
 
 -- "15: starts before the notice before it ends (earlier day, or same day and s below its e)"
 unfoldable pub startsBefore : Notice → Notice → Bool

@@ -3,19 +3,11 @@ ghost use mathlib.Core.Path.{_≡_};
 ghost use Prim.Native.Nat.{_≤_};
 ghost use lib.ListN.{length};
 ghost use Rattle.laws.specs.Table.{firstOf};
+ghost use Rattle.notices.specs.Notices.{hoursOf};
+ghost use Rattle.notices.specs.Sane.{Sane};
 ghost use Rattle.schedule.specs.Verdicts.{verdictPaper};
-ghost use Rattle.schedule.specs.Notices.{countOf, hoursOf};
 ghost use Rattle.schedule.specs.ListCheck.{ownRows, listRows, noticeAnswer, nothingBefore, afterNotice, fromNotice, badList, listAnswer, checkAnswer};
-ghost use Rattle.schedule.specs.Sane.{Sane};
-use crate::notices::Notice;
-use crate::notices::hours_of;
-use crate::notices::notice_in;
-use crate::profiles::Figures;
-use crate::profiles::Named;
-use crate::profiles::profile_named;
 use crate::rules::Sofar;
-use crate::rules::bad_hours;
-use crate::rules::bad_length;
 use crate::rules::barred_weekend;
 use crate::rules::excluded_day;
 use crate::rules::outside_period;
@@ -26,6 +18,9 @@ use crate::verdicts::Rule;
 use crate::verdicts::Verdict;
 use crate::verdicts::is_refused;
 use calendar::Days;
+use notices::Figures;
+use notices::Named;
+use notices::Notice;
 
 // Rules 10 to 14: the notice at place k by itself.
 fn own_verdict(winter: u32, f: Figures, n: Notice, k: u32) -> Verdict
@@ -40,10 +35,10 @@ fn own_verdict(winter: u32, f: Figures, n: Notice, k: u32) -> Verdict
     if barred_weekend(f, winter, n) {
         return Verdict::Refused(Rule::Weekend, k);
     }
-    if bad_hours(f, n) {
+    if notices::bad_hours(f, n) {
         return Verdict::Refused(Rule::BadHours, k);
     }
-    if bad_length(f, n) {
+    if notices::bad_length(f, n) {
         return Verdict::Refused(Rule::BadLength, k);
     }
     Verdict::Accepted
@@ -94,7 +89,7 @@ fn after_notice(so: Sofar, n: Notice) -> Sofar
     requires { ⌜ (so .hours ≤ 100) × (hoursOf n ≤ 24) ⌝ }
     ensures { λ r. ⌜ r ≡ afterNotice so n ⌝ }
 {
-    let hours = hours_of(n);
+    let hours = notices::hours_of(n);
     Sofar {
         last: n,
         hours: so.hours + hours,
@@ -103,13 +98,13 @@ fn after_notice(so: Sofar, n: Notice) -> Sofar
 
 // The first refusal among the notices of a list.
 fn check_notices(winter: u32, f: Figures, list: &[u32], count: usize) -> Verdict
-    requires { ⌜ Sane f × (count ≤ 100) × (count ≤ countOf (now list)) ⌝ }
+    requires { ⌜ Sane f × (count ≤ 100) ⌝ }
     ensures { λ r. ⌜ verdictPaper r ≡ fromNotice winter f (now (list .entry)) count 0 ⌝ }
 {
     let mut so = nothing_before();
     let mut k: usize = 0;
     while k < count {
-        let n = notice_in(list, k);
+        let n = notices::notice_at(list, k);
         let verdict = notice_verdict(winter, f, so, n, k as u32);
         if is_refused(verdict) {
             return verdict;
@@ -148,7 +143,7 @@ pub fn check(winter: u32, profile: u32, list: &[u32]) -> Verdict
     let Days::Are(_) = days else {
         return Verdict::Refused(Rule::NoWinter, 0);
     };
-    let named = profile_named(profile);
+    let named = notices::profile_named(profile);
     let Named::Is(p) = named else {
         return Verdict::Refused(Rule::NoProfile, 0);
     };

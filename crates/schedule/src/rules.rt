@@ -1,10 +1,9 @@
 // The rules of a notice, each a fault test: true where the rule is broken. They go by the figures and never by the profile.
 ghost use mathlib.Core.Path.{_≡_};
-ghost use Rattle.schedule.specs.Rules.{outsidePeriod, onExcludedDay, barredWeekend, outsideBands, badHours, badLength, startsBefore, sameBand, overLimit};
-use crate::notices::Notice;
-use crate::notices::hours_of;
-use crate::profiles::Figures;
-use crate::profiles::Profile;
+ghost use Rattle.schedule.specs.Rules.{outsidePeriod, onExcludedDay, barredWeekend, startsBefore, sameBand, overLimit};
+use notices::Figures;
+use notices::Notice;
+use notices::Profile;
 
 // What stands before a notice: the notice before it and the hours of all before it.
 pub struct Sofar {
@@ -36,29 +35,6 @@ pub(crate) fn barred_weekend(f: Figures, winter: u32, n: Notice) -> bool
     calendar::is_weekend(winter, n.day)
 }
 
-// The hours are not inside one band.
-fn outside_bands(f: Figures, n: Notice) -> bool
-    ensures { λ r. ⌜ r ≡ outsideBands f n ⌝ }
-{
-    ((n.start < Profile::MORNING) | (f.morning < n.end))
-        & ((n.start < Profile::EVENING) | (Profile::EVENING_END < n.end))
-}
-
-// Rule 13: whether the hours of a notice are empty, reversed or not inside one band.
-pub fn bad_hours(f: Figures, n: Notice) -> bool
-    ensures { λ r. ⌜ r ≡ badHours f n ⌝ }
-{
-    (n.end <= n.start) | outside_bands(f, n)
-}
-
-// 14: the length is not allowed.
-pub(crate) fn bad_length(f: Figures, n: Notice) -> bool
-    ensures { λ r. ⌜ r ≡ badLength f n ⌝ }
-{
-    let hours = hours_of(n);
-    (hours < f.shortest) | (f.longest < hours)
-}
-
 // 15: it starts before the notice before it ends.
 pub(crate) fn starts_before(last: Notice, n: Notice) -> bool
     ensures { λ r. ⌜ r ≡ startsBefore last n ⌝ }
@@ -83,6 +59,6 @@ pub(crate) fn same_band(last: Notice, n: Notice) -> bool
 pub(crate) fn over_limit(f: Figures, so: Sofar, n: Notice) -> bool
     ensures { λ r. ⌜ r ≡ overLimit f so n ⌝ }
 {
-    let hours = hours_of(n);
+    let hours = notices::hours_of(n);
     (f.hours as u64) < (so.hours as u64) + (hours as u64)
 }

@@ -26,10 +26,10 @@ use Rattle.money.specs.Lines.{eventAt, linesTo}
 use Rattle.money.specs.Refusals.{callRows}
 use Rattle.money.specs.Settlement.{refusedWith, settlement, written}
 use Rattle.money.specs.declared.settlement.Settlement.{Settlement}
+use Rattle.notices.specs.Notices.{countOf}
 use Rattle.printing.proofs.RoomLaws.{can-print, all-printed}
 use Rattle.printing.specs.Room.{cannotPrint, printed, printedCount}
 use Rattle.printing.specs.Sheet.{refusedBytes, statementBytes}
-use Rattle.schedule.specs.Notices.{countOf}
 use Rattle.text.specs.Statement.{mostBytes, noReadings, roomFor, settlementBytes, settledBytes, valuesBytes, formBytes, statementOf, answerRoom, tooSmall, startsWith, answered, answeredIn}
 
 -- so many bytes at the front of an output, and then what it held

@@ -27,10 +27,10 @@ use Rattle.money.proofs.WorthLaws.{Near, NearHalf}
 use Rattle.money.specs.Printed.{codeIn, placeIn, energyIn, centsIn, runOf}
 use Rattle.money.specs.Settlement.{settlement, written}
 use Rattle.money.specs.Worth.{centParts, exactWorth}
+use Rattle.notices.specs.Notices.{countOf, noticeAt}
 use Rattle.numerals.specs.Numbers.{numbersIn, numbersOfLines}
 use Rattle.printing.proofs.Shows.{statement-numbers}
 use Rattle.printing.specs.Sheet.{refusedBytes, noticeLines, statementBytes}
-use Rattle.schedule.specs.Notices.{countOf, noticeAt}
 use Rattle.text.specs.Statement.{mostBytes, noReadings, roomFor, settlementBytes, settledBytes, valuesBytes, formBytes, statementOf}
 
 -- what is printed of the values of a document

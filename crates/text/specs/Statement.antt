@@ -14,8 +14,8 @@ use Rattle.form.specs.declared.whole.Form.{Form}
 use Rattle.form.specs.declared.whole.Form.the-variants as form
 use Rattle.money.specs.Settlement.{settlement, written}
 use Rattle.money.specs.declared.settlement.Settlement.{Settlement}
+use Rattle.notices.specs.Notices.{countOf}
 use Rattle.printing.specs.Sheet.{refusedBytes, statementBytes}
-use Rattle.schedule.specs.Notices.{countOf}
 
 -- "32: text over 65,536 bytes"
 abbrev pub mostBytes : ℕ

@@ -3,8 +3,8 @@ ghost use mathlib.Core.Path.{_≡_};
 ghost use Prim.Native.Nat.{_*_, _≤_};
 ghost use lib.ListN.{length};
 ghost use Rattle.form.specs.Said.{eventsOf};
+ghost use Rattle.notices.specs.Notices.{countOf};
 ghost use Rattle.printing.specs.Sheet.{refusedBytes};
-ghost use Rattle.schedule.specs.Notices.{countOf};
 ghost use Rattle.text.specs.Statement.{answerRoom, startsWith, roomFor, settledBytes};
 use form::Shape;
 

@@ -5,7 +5,7 @@ use Prim.Native.Nat.{_≤_, _-_}
 use mathlib.Core.Path.{_≡_}
 use native.Mathlib.Omega.{arith}
 use borrow.Author.Needs.{needs}
-use Rattle.schedule.specs.Notices.{countOf}
+use Rattle.notices.specs.Notices.{countOf}
 use Rattle.event_hours.specs.Days.{masksTo}
 use Rattle.event_hours.proofs.DayLaws.{masks-none, masks-next, masks-all}
 use Rattle.event_hours.proofs.days.masks_of.Statement.{statement}

@@ -7,9 +7,9 @@ use native.Mathlib.Numerals.{add-one}
 use native.Mathlib.Omega.{arith}
 use lib.ListN.{length}
 use borrow.Author.Needs.{needs}
+use Rattle.notices.specs.Notices.{noticeAt}
+use Rattle.notices.specs.declared.notices.Notice.{Notice}
 use Rattle.numerals.specs.Lines.{lineBytes, bytesOfLines}
-use Rattle.schedule.specs.Notices.{noticeAt}
-use Rattle.schedule.specs.declared.notices.Notice.{Notice}
 use Rattle.printing.specs.Put.{Put}
 use Rattle.printing.specs.Settled.{settledIn, lineFor}
 use Rattle.printing.specs.Sheet.{noticeLine, noticeLines}

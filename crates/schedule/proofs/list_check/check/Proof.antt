@@ -4,8 +4,8 @@ use Rattle.schedule.proofs.RuleLaws.{no-profile, of-profile}
 use borrow.Author.Needs.{needs}
 use Rattle.calendar.proofs.Promise.{no-winter, is-winter}
 use Rattle.laws.proofs.Refusals.{refused, kept}
+use Rattle.notices.specs.Sane.{sane}
 use Rattle.schedule.specs.ListCheck.{checkAnswer}
-use Rattle.schedule.specs.Sane.{sane}
 use Rattle.schedule.proofs.list_check.check.Statement.{statement}
 use Rattle.schedule.proofs.list_check.check.Tie as tie
 

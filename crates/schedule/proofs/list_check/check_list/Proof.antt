@@ -17,7 +17,8 @@ unfolding listAnswer
 returns c = refused _ _ (found (c .before .bad-list .ensures) (c .if1 .taken))
 
 check-notices-requires : tie.Need-check-notices-requires
-check-notices-requires c κs = (c .before .before .before .pre, list-fits _ (found (c .before .bad-list .ensures) (c .if1 .left)) .1, omega arith)
+check-notices-requires c κs =
+    let fits = list-fits _ (found (c .before .bad-list .ensures) (c .if1 .left)) in (c .before .before .before .pre, omega arith)
 
 returns-2 : tie.Need-returns-2
 unfolding listAnswer

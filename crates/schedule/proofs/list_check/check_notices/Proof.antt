@@ -2,7 +2,6 @@
 -- The invariant, `Held`: what stands before notice k is what the list has before it, and the notices from k on give what all give.
 -- Assumes nothing.
 use Prim.Native.Nat.{_-_}
-use native.Mathlib.Omega.{arith}
 use borrow.Author.Needs.{needs}
 use Rattle.laws.proofs.Guards.{found}
 use Rattle.schedule.proofs.Walk.{Held, held-start, held-stop, held-fits, held-next, held-done}
@@ -21,8 +20,8 @@ nothing-before-requires c κs = search needs
 loop-holds : tie.Need-loop-holds Inv-loop μ-loop
 loop-holds c = held-start _ _ _ _ _ (c .nothing-before .ensures)
 
-notice-in-requires : tie.Need-notice-in-requires Inv-loop μ-loop
-notice-in-requires c κs = omega arith
+notice-at-requires : tie.Need-notice-at-requires Inv-loop μ-loop
+notice-at-requires c κs = search needs
 
 cast-notice-verdict : tie.Need-cast-notice-verdict Inv-loop μ-loop
 cast-notice-verdict c = search needs
@@ -35,11 +34,11 @@ is-refused-requires c κs = search needs
 
 returns : tie.Need-returns Inv-loop μ-loop
 returns c =
-    held-stop (c .before .before .before .before .before .loop .inv) (c .before .before .before .notice-in .ensures) (c .before .before .notice-verdict .ensures) (c .before .before .before .before .loop-test .taken) (found (c .before .is-refused .ensures) (c .if1 .taken))
+    held-stop (c .before .before .before .before .before .loop .inv) (c .before .before .before .notice-at .ensures) (c .before .before .notice-verdict .ensures) (c .before .before .before .before .loop-test .taken) (found (c .before .is-refused .ensures) (c .if1 .taken))
 
 after-notice-requires : tie.Need-after-notice-requires Inv-loop μ-loop
 after-notice-requires c κs =
-    held-fits (c .before .before .before .before .before .loop .inv) (c .before .before .before .notice-in .ensures) (c .before .before .notice-verdict .ensures) (c .before .before .before .before .before .before .before .before .pre .0) (found (c .before .is-refused .ensures) (c .if1 .left))
+    held-fits (c .before .before .before .before .before .loop .inv) (c .before .before .before .notice-at .ensures) (c .before .before .notice-verdict .ensures) (c .before .before .before .before .before .before .before .before .pre .0) (found (c .before .is-refused .ensures) (c .if1 .left))
 
 add-k : tie.Need-add-k Inv-loop μ-loop
 add-k c = search needs
@@ -49,7 +48,7 @@ loop-less c = search needs
 
 loop-again : tie.Need-loop-again Inv-loop μ-loop
 loop-again c =
-    held-next (c .before .before .before .before .before .before .loop .inv) (c .before .before .before .before .notice-in .ensures) (c .before .before .before .notice-verdict .ensures) (c .before .before .before .before .before .before .before .before .before .pre .0) (c .before .before .before .before .before .loop-test .taken) (found (c .before .before .is-refused .ensures) (c .before .if1 .left)) (c .after-notice .ensures)
+    held-next (c .before .before .before .before .before .before .loop .inv) (c .before .before .before .before .notice-at .ensures) (c .before .before .before .notice-verdict .ensures) (c .before .before .before .before .before .before .before .before .before .pre .0) (c .before .before .before .before .before .loop-test .taken) (found (c .before .before .is-refused .ensures) (c .before .if1 .left)) (c .after-notice .ensures)
 
 returns-2 : tie.Need-returns-2 Inv-loop μ-loop
 returns-2 c = held-done (c .before .loop .inv) (c .loop-test .left)
@@ -62,7 +61,7 @@ check-notices-spec =
     μ-loop
     nothing-before-requires
     loop-holds
-    notice-in-requires
+    notice-at-requires
     cast-notice-verdict
     notice-verdict-requires
     is-refused-requires

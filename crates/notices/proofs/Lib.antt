@@ -1,0 +1,3 @@
+pub mod HourLaws
+pub mod NoticeLaws
+pub mod ProfileLaws

@@ -1,0 +1,4 @@
+pub mod Profiles
+pub mod Notices
+pub mod Hours
+pub mod Sane

@@ -1,0 +1,14 @@
+// What a notice is: the notices of a list, the profiles and their figures, and the rules that need nothing but these.
+mod hours;
+mod notices;
+mod profiles;
+
+pub use hours::bad_hours;
+pub use hours::bad_length;
+pub use notices::Notice;
+pub use notices::hours_of;
+pub use notices::notice_at;
+pub use profiles::Figures;
+pub use profiles::Named;
+pub use profiles::Profile;
+pub use profiles::profile_named;

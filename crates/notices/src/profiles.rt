@@ -1,0 +1,72 @@
+// The profiles and their figures.
+ghost use mathlib.Core.Path.{_≡_};
+ghost use Rattle.notices.specs.Profiles.{figuresOf, named};
+
+pub enum Profile {
+    Credit,
+    PowerOption,
+}
+
+// The figures of a profile: one column of document 01's table. The bands' other ends are the same for all profiles.
+pub struct Figures {
+    pub morning: u32,
+    pub weekends: bool,
+    pub shortest: u32,
+    pub longest: u32,
+    pub hours: u32,
+}
+
+impl Profile {
+    // Profile 1, winter credit.
+    pub const CREDIT: Figures = Figures {
+        morning: 10,
+        weekends: true,
+        shortest: 1,
+        longest: 4,
+        hours: 100,
+    };
+
+    // Profile 2, power option.
+    pub const POWER_OPTION: Figures = Figures {
+        morning: 9,
+        weekends: false,
+        shortest: 3,
+        longest: 4,
+        hours: 100,
+    };
+
+    // The hour at which the morning band starts.
+    pub const MORNING: u32 = 6;
+
+    // The hours at which the evening band starts and ends.
+    pub const EVENING: u32 = 16;
+
+    pub const EVENING_END: u32 = 20;
+
+    // The figures by which the rules go.
+    pub fn figures(self) -> Figures
+        ensures { λ r. ⌜ r ≡ figuresOf self ⌝ }
+    {
+        match self {
+            Profile::Credit => Profile::CREDIT,
+            Profile::PowerOption => Profile::POWER_OPTION,
+        }
+    }
+}
+
+// The profile of a number, if it is one.
+pub enum Named {
+    Is(Profile),
+    NoProfile,
+}
+
+// The profile that document 01 numbers so, if there is one.
+pub fn profile_named(number: u32) -> Named
+    ensures { λ r. ⌜ r ≡ named number ⌝ }
+{
+    match number {
+        1 => Named::Is(Profile::Credit),
+        2 => Named::Is(Profile::PowerOption),
+        _ => Named::NoProfile,
+    }
+}

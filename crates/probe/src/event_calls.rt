@@ -1,0 +1,80 @@
+// One event, by the masks of a list.
+ghost use mathlib.Core.Path.{_≡_};
+ghost use Rattle.energy.specs.Line.{linePaper, eventAnswer};
+ghost use Rattle.event_hours.specs.Days.{masksOf};
+ghost use Rattle.probe.specs.Told.{told, energyTold};
+use energy::Line;
+use notices::Notice;
+
+// Code 20, and codes 21 and 22 before their place.
+const FEW_DAYS: u64 = 20 * 65536;
+
+const MISSING: u64 = 21 * 65536;
+
+const TOO_LARGE: u64 = 22 * 65536;
+
+// Refusals 1, 2, 10 and 13.
+const NO_WINTER: u64 = 4294967296;
+
+const BAD_BOOK: u64 = 2 * 4294967296;
+
+const OUTSIDE_PERIOD: u64 = 10 * 4294967296;
+
+const BAD_HOURS: u64 = 13 * 4294967296;
+
+// The code and place of an event, or the refusal.
+#[no_mangle]
+pub extern "C" fn probe_event_fault(
+    winter: u32,
+    book: &[u32],
+    list: &[u32],
+    day: u32,
+    start: u32,
+    end: u32,
+) -> u64
+    ensures { λ r. ⌜ r ≡ told (eventAnswer winter (now (book .entry)) (masksOf (now (list .entry))) (record { day = day; start = start; end = end })) ⌝ }
+{
+    let masks = event_hours::masks_of(list);
+    match energy::settle_event(winter, book, &masks, Notice { day, start, end }) {
+        Line::Settled(_) => 0,
+        Line::FewDays => FEW_DAYS,
+        Line::Missing(place) => MISSING + place as u64,
+        Line::TooLarge(place) => TOO_LARGE + place as u64,
+        Line::NoWinter => NO_WINTER,
+        Line::BadBook => BAD_BOOK,
+        Line::OutsidePeriod => OUTSIDE_PERIOD,
+        Line::BadHours => BAD_HOURS,
+    }
+}
+
+// The energy of a line, 0 where it is unsettled or refused.
+fn energy_of(line: Line) -> u64
+    ensures { λ r. ⌜ r ≡ energyTold (linePaper line) ⌝ }
+{
+    match line {
+        Line::Settled(energy) => energy,
+        Line::FewDays => 0,
+        Line::Missing(_) => 0,
+        Line::TooLarge(_) => 0,
+        Line::NoWinter => 0,
+        Line::BadBook => 0,
+        Line::OutsidePeriod => 0,
+        Line::BadHours => 0,
+    }
+}
+
+// The energy of an event, 0 where it is unsettled or refused.
+#[no_mangle]
+pub extern "C" fn probe_event_energy(
+    winter: u32,
+    book: &[u32],
+    list: &[u32],
+    day: u32,
+    start: u32,
+    end: u32,
+) -> u64
+    ensures { λ r. ⌜ r ≡ energyTold (eventAnswer winter (now (book .entry)) (masksOf (now (list .entry))) (record { day = day; start = start; end = end })) ⌝ }
+{
+    let masks = event_hours::masks_of(list);
+    energy_of(energy::settle_event(winter, book, &masks, Notice { day, start, end }))
+}

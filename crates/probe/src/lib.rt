@@ -1,0 +1,20 @@
+// The inner layers under names that C can link, for the tests and for scripts/calendar: no part of what is delivered.
+mod calendar_calls;
+mod event_calls;
+mod mask_calls;
+
+pub use calendar_calls::probe_book_day;
+pub use calendar_calls::probe_date;
+pub use calendar_calls::probe_days;
+pub use calendar_calls::probe_easter;
+pub use calendar_calls::probe_excluded;
+pub use calendar_calls::probe_part_length;
+pub use calendar_calls::probe_part_reading;
+pub use calendar_calls::probe_weekday;
+pub use calendar_calls::probe_weekend;
+pub use event_calls::probe_event_energy;
+pub use event_calls::probe_event_fault;
+pub use mask_calls::probe_length;
+pub use mask_calls::probe_mask;
+pub use mask_calls::probe_own_hours;
+pub use mask_calls::probe_start;

@@ -1,0 +1,177 @@
+"""Compares the calendar with the second program, query by query.
+
+Both are asked the same queries and must print the same lines.
+The last line printed is "N passed, M failed".
+"""
+
+import random
+from collections import Counter
+from datetime import date
+from functools import partial
+from itertools import product
+
+from cases.checks import Case, check_every, check_group, check_share
+from cases.layers import both_of_days, fields
+from common.harness import Failure, run_tests
+from second import winters
+
+# What each call can give as its first number; the readings start with their length. The check
+# of a notice on the day gives two numbers, one for each profile.
+POSSIBLE = {
+    "days": ("0", "1"),
+    "easter": ("0", "1"),
+    "weekday": ("0", "1", "10"),
+    "weekend": ("0", "1", "10"),
+    "excluded": ("0", "1", "10"),
+    "date": ("0", "1", "10"),
+    "book_day": ("0", "1", "10"),
+    "readings": ("0", "24"),
+    "check": ("0,0", "0,12", "1,1", "10,10", "11,11"),
+}
+
+# Queries that are mostly refused would compare little: this share of all of them
+# must be about a real day of a real winter.
+LEAST_ACCEPTED_PERCENT = 60
+
+SEED = 2026
+RANDOM_QUERIES = 20_000
+
+
+# The groups of queries.
+
+
+def every_day():
+    """With the right book length, so that the readings of every day are compared too."""
+    return [
+        (w, day, 24 * len(winters.book_dates(w))) for w in winters.WINTERS for day in range(154)
+    ]
+
+
+def every_date():
+    return list(product(winters.WINTERS, range(14), range(33)))
+
+
+def book_lengths():
+    queries = []
+    for w in winters.WINTERS:
+        n = len(winters.book_dates(w))
+        lengths = (24 * n, 24 * n - 1, 24 * n + 1, 0, 24, 3624, 3648, 24 * n - 24)
+        queries += product([w], (0, n // 2, n - 1, n), lengths)
+    return queries
+
+
+def years_outside():
+    """Years outside and just inside the limits, with days and dates of both kinds."""
+    years = (
+        0, 1, 1900, 2000, 2008, 2009, 2010, 2011, 2097, 2098, 2099, 2100, 2101, 2400,
+        65535, 4294967294, 4294967295,
+    )
+    days = (0, 29, 30, 53, 145, 150, 151, 152, 4294967295)
+    lengths = (0, 3624, 3648)
+    dates = (
+        (11, 1), (12, 24), (1, 2), (2, 28), (2, 29), (3, 31),
+        (10, 31), (4, 1), (2, 30), (7, 1), (0, 1), (12, 0), (13, 1),
+    )
+    arguments = (*product(days, lengths), *dates)
+    return [(year, a, b) for year, (a, b) in product(years, arguments)]
+
+
+def extreme_numbers():
+    """Every number in every place. Besides the ends of ranges: numbers that turn into a
+    winter or a date when cut to 8 or 16 bits, and days whose 24-fold is at or just past
+    the end of 32 bits."""
+    numbers = (
+        0, 1, 12, 31, 150, 151, 152, 2010, 2026, 2098, 3624, 3648,
+        256 + 12, 65535, 65536, 65536 + 12, 65536 + 2026, 178956970, 178956971,
+        2147483647, 2147483648, 4294967294, 4294967295,
+    )
+    return list(product(numbers, repeat=3))
+
+
+def random_queries():
+    """Mostly plausible numbers; one in ten is any number of 32 bits."""
+    source = random.Random(SEED)
+
+    def number(*plausible):
+        if source.randrange(10) == 0:
+            return source.randrange(2**32)
+        return source.choice(source.choice(plausible))
+
+    return [
+        (
+            number(range(2005, 2105)),
+            number(range(160), range(14)),
+            number(range(33), (3624, 3648), range(3620, 3652)),
+        )
+        for _ in range(RANDOM_QUERIES)
+    ]
+
+
+GROUPS = (
+    ("every day of every winter", every_day),
+    ("every date of every winter", every_date),
+    ("right and wrong book lengths", book_lengths),
+    ("years outside", years_outside),
+    ("extreme numbers", extreme_numbers),
+    ("random queries", random_queries),
+)
+
+
+# The tests.
+
+
+def check_queries(make, answered):
+    """The queries of a group get the same lines; none of them is built for one."""
+    check_group(lambda: [Case(query) for query in make()], both_of_days, answered)
+
+
+def check_every_number(answered):
+    """Each call gave each of its possible numbers at least once, and no other."""
+    tally = Counter(
+        (call, answer if call == "check" else answer.partition(",")[0])
+        for _, line in answered
+        for call, answer in fields(line).items()
+    )
+    check_every(tally, POSSIBLE)
+
+
+def check_accepted(answered):
+    """Enough queries were about a real day."""
+    accepted = sum(fields(line).get("weekday", "").startswith("0,") for _, line in answered)
+    check_share(accepted, len(answered), LEAST_ACCEPTED_PERCENT, "weekday answered with number 0")
+
+
+def formula_easter(y):
+    """Easter Sunday by document 01's formula, letter by letter."""
+    a, b, c = y % 19, y // 100, y % 100
+    d, e = b // 4, b % 4
+    f = (b + 8) // 25
+    g = (b - f + 1) // 3
+    h = (19 * a + b - d - g + 15) % 30
+    i, k = c // 4, c % 4
+    l = (32 + 2 * e + 2 * i - h - k) % 7
+    m = (a + 11 * h + 22 * l) // 451
+    t = h + l - 7 * m + 114
+    return date(y, t // 31, t % 31 + 1)
+
+
+def check_second_easter():
+    """The second program's table of full moons agrees with document 01's formula."""
+    wrong = [y for y in winters.EASTER_YEARS if winters.easter_sunday(y) != formula_easter(y)]
+    if wrong:
+        raise Failure(f"the second program's Easter is another one in {wrong}")
+
+
+def all_tests():
+    """Every test, as its name and a check that raises Failure."""
+    answered = []
+    return [
+        ("second program's Easter by document 01's formula", check_second_easter),
+        *((name, partial(check_queries, make, answered)) for name, make in GROUPS),
+        ("every possible number was given", partial(check_every_number, answered)),
+        ("enough queries were accepted", partial(check_accepted, answered)),
+    ]
+
+
+if __name__ == "__main__":
+    run_tests(all_tests())

@@ -1,0 +1,120 @@
+"""Wrong readings of document 01, those that it calls easy to get wrong, each in a few lines.
+
+A reading is a way to work out the lines of a settlement. It is right where nothing else is
+said, so a wrong one differs in one point only.
+"""
+
+from typing import Callable, NamedTuple
+
+from cases.event_books import LIMIT, Sums, formula_energy, references, stepped_book
+from second import energies, settlements
+from second.energies import EIGHTEENTHS, REFERENCE_DAYS, place_of
+
+# Which days serve at an hour.
+
+
+def whole_day_out(query, hour):
+    """Right: a day that carries an event at any hour is out."""
+    return references(query)
+
+
+def event_hours_out(query, hour):
+    """Wrong: of a day that carries an event only the event's hours are out."""
+    taken = energies.event_hours(query.numbers)
+    days = energies.days_of_kind(query.winter, query.day)
+    return [day for day in days if hour not in taken.get(day, ())][:REFERENCE_DAYS]
+
+
+# The sum of T over some hours. A table has the readings by hour, those of one hour by day.
+
+
+def one_value_at_each_hour(table):
+    """Right: at each hour one smallest and one largest value are left out."""
+    return sum(sum(sorted(readings)[1:-1]) for readings in table)
+
+
+def one_day_at_all_hours(table):
+    """Wrong: the days that drew least and most in all are left out at every hour."""
+    return sum(sorted(map(sum, zip(*table)))[1:-1])
+
+
+# From the sums to the energy.
+
+
+def limit_always(h, w, sums):
+    """Wrong: the limit applies whatever the trial."""
+    r, b, a, c = sums
+    return max(6 * r + min(3 * a - b, 2 * b) * 6 * h // w - 18 * c, 0)
+
+
+def floored_adjustment(h, w, sums):
+    """Wrong: the adjustment is not negative."""
+    r, b, a, c = sums
+    stands = max(3 * a - b, 0)
+    if 6 * r + stands * 6 * h // w - 18 * c > LIMIT:
+        stands = min(stands, 2 * b)
+    return max(6 * r + stands * 6 * h // w - 18 * c, 0)
+
+
+# The energy of a line.
+
+
+def as_it_is(energy):
+    """Right: whole eighteenths of a Wh."""
+    return energy
+
+
+def whole_wh_down(energy):
+    """Wrong: whole Wh, the rest cut off."""
+    return energy // EIGHTEENTHS * EIGHTEENTHS
+
+
+def nearest_whole_wh(energy):
+    """Wrong: whole Wh, rounded."""
+    return whole_wh_down(energy + EIGHTEENTHS // 2)
+
+
+def whole_wh_up(energy):
+    """Wrong: whole Wh, those begun counted too."""
+    return whole_wh_down(energy + EIGHTEENTHS - 1)
+
+
+# The cents of lines.
+
+
+def each_line_by_itself(amounts, price):
+    """Wrong: what each line is worth is rounded."""
+    return [settlements.rounded(settlements.worth(energy, price)) for energy in amounts]
+
+
+class Reading(NamedTuple):
+    """A way to read document 01, right where nothing else is said."""
+    days: Callable = whole_day_out
+    usual: Callable = one_value_at_each_hour
+    formula: Callable = formula_energy
+    energy: Callable = as_it_is
+    cents: Callable = settlements.line_cents
+
+
+def energy_by(reading, query):
+    """The energy of a query's event by a reading; no needed reading is missing."""
+    book = stepped_book(query)
+    event = query.event()
+
+    def usual(hours):
+        return reading.usual([
+            [book[place_of(day, hour)] for day in reading.days(query, hour)] for hour in hours
+        ])
+
+    def own(hours):
+        return sum(book[place_of(event.day, hour)] for hour in hours)
+
+    hours, warm_up = event.hours(), energies.warm_up_hours(event)
+    sums = Sums(r=usual(hours), b=usual(warm_up), a=own(warm_up), c=own(hours))
+    return reading.energy(reading.formula(len(hours), len(warm_up), sums))
+
+
+def lines_by(reading, queries, price):
+    """Energy and cents of the lines of these events by a reading."""
+    amounts = [energy_by(reading, query) for query in queries]
+    return list(zip(amounts, reading.cents(amounts, price)))

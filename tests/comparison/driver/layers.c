@@ -1,0 +1,231 @@
+/* Answers queries on the layers below the settlement, a line each, for the comparison with the
+ * second program and for scripts/calendar.
+ *
+ * Standard input starts with the number of a layer, and its queries follow; every number has ten
+ * decimal digits and one byte more.
+ *
+ * 1, the calendar: three numbers w, a and b. A line has these and then, as NAME=number,values, the
+ * answer of each call: on winter or year w, on day a, on the date of month a and day b, and on day
+ * a's part of a book of b numbers; last the refusal numbers of the list check under both profiles
+ * for the list of one notice, on day a from 6 to 9.
+ *
+ * 2, the list check: winter, profile and count, then the numbers of a list. A line has the number
+ * and the place of the refusal; of an accepted list also the event hours of each day that has any,
+ * as DAY:MASK, and each notice's event as it comes back from them, as START+LENGTH.
+ *
+ * 3, the energy of an event: winter, count, length, seed, low, spread, changes, day, start and end,
+ * then the numbers of a list, then pairs of a place and a value, which are set in the book that is
+ * made from length, seed, low and spread. A line has the number of the refusal alone, or 0 and then
+ * the event's code, place and energy. */
+
+#include <inttypes.h>
+#include <stdbool.h>
+#include <stdio.h>
+#include <stdlib.h>
+
+#include "ibisladder.h"
+#include "probe.h"
+
+enum { DAYS = 152, HOURS = 24, LONGEST_BOOK = 3648, ANY_BOOK = 3672, MOST_NUMBERS = 400 };
+
+static uint32_t list[MOST_NUMBERS], pairs[MOST_NUMBERS], book[ANY_BOOK];
+
+static void give_up(const char *reason)
+{
+    fprintf(stderr, "%s\n", reason);
+    exit(2);
+}
+
+/* Reads so many numbers; false where there is nothing more to read. */
+static bool read_numbers(uint32_t *numbers, size_t count)
+{
+    for (size_t i = 0; i < count; i++) {
+        char digits[11];
+        size_t got = fread(digits, 1, sizeof digits, stdin);
+        if (got == 0 && i == 0)
+            return false;
+        if (got < sizeof digits)
+            give_up("a query is cut short");
+        numbers[i] = 0;
+        for (size_t k = 0; k < 10; k++)
+            numbers[i] = 10 * numbers[i] + (uint32_t)(digits[k] - '0');
+    }
+    return true;
+}
+
+/* Reads what follows the header of a query. */
+static void read_rest(uint32_t *numbers, size_t count)
+{
+    if (count > MOST_NUMBERS)
+        give_up("a query is too long");
+    if (count > 0 && !read_numbers(numbers, count))
+        give_up("a query is cut short");
+}
+
+/* The delivered list check, on the numbers of a list as bytes. */
+static uint32_t check(uint32_t winter, uint32_t profile, const uint32_t *numbers, size_t count)
+{
+    static uint8_t bytes[4 * MOST_NUMBERS];
+    for (size_t i = 0; i < 4 * count; i++)
+        bytes[i] = (uint8_t)(numbers[i / 4] >> 8 * (i % 4));
+    return ibisladder_check(winter, profile, bytes, 4 * count);
+}
+
+/* The calendar. */
+
+static uint32_t refusal(uint64_t answer)
+{
+    return (uint32_t)(answer >> 32);
+}
+
+/* The value of an answer that is not refused, or its two. */
+
+static void put_value(uint64_t answer)
+{
+    if (refusal(answer) == 0)
+        printf(",%" PRIu32, (uint32_t)answer);
+}
+
+static void put_values(uint64_t answer)
+{
+    if (refusal(answer) == 0)
+        printf(",%" PRIu32 ",%" PRIu32, (uint32_t)answer >> 16, (uint32_t)answer & 65535);
+}
+
+static void put_answer(const char *name, uint64_t answer)
+{
+    printf(" %s=%" PRIu32, name, refusal(answer));
+    put_value(answer);
+}
+
+static void put_date(const char *name, uint64_t answer)
+{
+    printf(" %s=%" PRIu32, name, refusal(answer));
+    put_values(answer);
+}
+
+/* How many readings a day's part has, with the first and the last. */
+static void put_part(uint32_t winter, size_t numbers, uint32_t day)
+{
+    size_t length = probe_part_length(winter, book, numbers, day);
+    printf(" readings=%zu", length);
+    if (length > 0)
+        printf(",%" PRIu32 ",%" PRIu32, probe_part_reading(winter, book, numbers, day, 0),
+               probe_part_reading(winter, book, numbers, day, length - 1));
+}
+
+/* What the list check says of the day, under both profiles. */
+static void put_check(uint32_t winter, uint32_t day)
+{
+    const uint32_t notice[3] = {day, 6, 9};
+    printf(" check=%" PRIu32 ",%" PRIu32, ibisladder_number(check(winter, 1, notice, 3)),
+           ibisladder_number(check(winter, 2, notice, 3)));
+}
+
+static void answer_days(void)
+{
+    uint32_t query[3];
+    for (uint32_t i = 0; i < LONGEST_BOOK; i++)
+        book[i] = i; /* so that a reading tells where it stood */
+    while (read_numbers(query, 3)) {
+        uint32_t w = query[0], a = query[1], b = query[2];
+        printf("%" PRIu32 ",%" PRIu32 ",%" PRIu32, w, a, b);
+        put_answer("days", probe_days(w));
+        put_date("easter", probe_easter(w));
+        put_answer("weekday", probe_weekday(w, a));
+        put_answer("weekend", probe_weekend(w, a));
+        put_answer("excluded", probe_excluded(w, a));
+        put_date("date", probe_date(w, a));
+        put_answer("book_day", probe_book_day(w, a, b));
+        put_part(w, b < LONGEST_BOOK ? b : LONGEST_BOOK, a);
+        put_check(w, a);
+        putchar('\n');
+    }
+}
+
+/* The list check. */
+
+static void put_events(size_t numbers)
+{
+    uint32_t masks[DAYS];
+    const char *comma = "";
+    printf(" masks=");
+    for (size_t day = 0; day < DAYS; day++) {
+        masks[day] = probe_mask(list, numbers, day);
+        if (masks[day] != 0) {
+            printf("%s%zu:%" PRIu32, comma, day, masks[day]);
+            comma = ",";
+        }
+    }
+    printf(" events=");
+    for (size_t i = 0; i + 2 < numbers; i += 3) {
+        uint32_t mask = list[i] < DAYS ? masks[list[i]] : 0;
+        uint32_t own = probe_own_hours(mask, list[i + 1]);
+        printf("%s%" PRIu32 "+%" PRIu32, i > 0 ? "," : "", probe_start(own), probe_length(own));
+    }
+}
+
+static void answer_lists(void)
+{
+    uint32_t query[3];
+    while (read_numbers(query, 3)) {
+        size_t numbers = query[2];
+        read_rest(list, numbers);
+        uint32_t answer = check(query[0], query[1], list, numbers);
+        printf("%" PRIu32 ",%" PRIu32, ibisladder_number(answer), ibisladder_place(answer));
+        if (ibisladder_number(answer) == 0)
+            put_events(numbers);
+        putchar('\n');
+    }
+}
+
+/* The energy of an event. */
+
+/* Makes a book, each number from one step more of a state that starts at the seed, and then sets the
+ * value of each pair at its place. A spread of 0 is taken as 1. */
+static void make_book(const uint32_t *query)
+{
+    uint64_t state = query[3];
+    uint32_t spread = query[5] == 0 ? 1 : query[5];
+    for (uint32_t i = 0; i < query[2]; i++) {
+        state = (state * 1103515245 + 12345) % 2147483648;
+        book[i] = query[4] + (uint32_t)(state / 65536) % spread;
+    }
+    for (size_t k = 0; k < query[6]; k++)
+        if (pairs[2 * k] < query[2])
+            book[pairs[2 * k]] = pairs[2 * k + 1];
+}
+
+static void answer_events(void)
+{
+    uint32_t query[10];
+    while (read_numbers(query, 10)) {
+        uint32_t winter = query[0], day = query[7], start = query[8], end = query[9];
+        size_t numbers = query[1], length = query[2];
+        if (length > ANY_BOOK)
+            give_up("a book is too long");
+        read_rest(list, numbers);
+        read_rest(pairs, 2 * (size_t)query[6]);
+        make_book(query);
+        uint64_t fault = probe_event_fault(winter, book, length, list, numbers, day, start, end);
+        printf("%" PRIu32, refusal(fault));
+        put_values(fault);
+        if (refusal(fault) == 0)
+            printf(",%" PRIu64,
+                   probe_event_energy(winter, book, length, list, numbers, day, start, end));
+        putchar('\n');
+    }
+}
+
+int main(void)
+{
+    uint32_t layer = 0;
+    read_numbers(&layer, 1);
+    switch (layer) {
+    case 1: answer_days(); break;
+    case 2: answer_lists(); break;
+    case 3: answer_events(); break;
+    default: give_up("there is no such layer");
+    }
+    return fflush(stdout) == 0 ? EXIT_SUCCESS : EXIT_FAILURE;
+}

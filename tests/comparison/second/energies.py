@@ -1,0 +1,268 @@
+"""The second program's spared energy: document 01's article 2.59, told by averages.
+
+The needed readings are a dictionary by (day, hour), an hour's usual reading is the average
+of the three in the middle of a sorted list, and energies are fractions of a Wh. Only what
+is printed is turned into eighteenths. Sentences in quotation marks are document 01's.
+"""
+
+from collections import defaultdict
+from fractions import Fraction
+from functools import cache, lru_cache, partial
+from typing import NamedTuple
+
+from second import notices, winters
+from second.notices import PROFILES, Notice
+
+HOURS = winters.HOURS
+MASKED_DAYS = 152
+
+# "A reading is 0 to 10,000,000 Wh. 4294967295 marks a missing one."
+HIGHEST_READING = 10_000_000
+MISSING = 4294967295
+
+REFERENCE_DAYS = 5
+LIMIT_WH = 40_000
+EIGHTEENTHS = 18
+
+# How long before its start an event's warm-up hours are: "for a morning event s-5, s-4, s-3
+# (W = 3); for an evening event s-4, s-3 (W = 2)".
+MORNING, EVENING = PROFILES[1].bands
+WARM_UP = {MORNING: (5, 4, 3), EVENING: (4, 3)}
+
+LONGEST_BOOK = 3672
+
+
+class Query(NamedTuple):
+    """A call that settles one event, with the list and the book lent to it. The book has
+    `length` numbers drawn from the seed, and the changes, pairs (index, value), over them."""
+    winter: int
+    numbers: tuple
+    length: int
+    seed: int
+    low: int
+    spread: int
+    changes: tuple
+    day: int
+    start: int
+    end: int
+
+    def event(self):
+        return Notice(self.day, self.start, self.end)
+
+
+class Spared(NamedTuple):
+    """How an event's spared energy came about. All are Wh, and the middle two are for one
+    warm-up hour: what the event day drew above the usual, and the most of it that the limit
+    leaves."""
+    trial: Fraction
+    excess: Fraction
+    most: Fraction
+    unfloored: Fraction
+
+    def is_limited(self):
+        return self.trial > LIMIT_WH
+
+    def energy(self):
+        """"Or 0 if that is negative"."""
+        return max(self.unfloored, Fraction(0))
+
+
+class Answer(NamedTuple):
+    """A refusal number, 0 if none; then the event code, its place and, if the event is
+    settled, what it spared."""
+    number: int
+    code: int = 0
+    place: int = 0
+    spared: Spared = None
+
+
+# The lent book.
+
+
+def step_pairs(count):
+    """After its first, second, .. step a book's state is factor times seed plus summand:
+    these pairs, so that one number of a book can be told without those before it."""
+    factor, summand = 1, 0
+    for _ in range(count):
+        factor = factor * 1103515245 % 2**31
+        summand = (summand * 1103515245 + 12345) % 2**31
+        yield factor, summand
+
+
+STEPS = tuple(step_pairs(LONGEST_BOOK))
+
+
+def drawn(query, index):
+    """The book's number at an index before the changes."""
+    factor, summand = STEPS[index]
+    state = (factor * query.seed + summand) % 2**31
+    return (query.low + state // 65536 % max(query.spread, 1)) % 2**32
+
+
+def place_of(day, hour):
+    """"24 times day plus hour", which is also where the book has the reading: "a book is
+    24N numbers of 32 bits, day by day"."""
+    return HOURS * day + hour
+
+
+def readings_at(query, hours):
+    """The book's readings at these pairs (day, hour), by the pair. Of two changes at one
+    index the later one stands."""
+    changed = dict(query.changes)
+    places = {pair: place_of(*pair) for pair in hours}
+    return {pair: changed.get(at, drawn(query, at)) for pair, at in places.items()}
+
+
+# The hours of an event and its reference days.
+
+
+@lru_cache(maxsize=1)
+def event_hours(numbers):
+    """The event hours of a list, as a set for each day. The list is taken as it is: a
+    notice marks nothing where there is no such day, where it ends behind the day or where
+    it has no hours, and numbers over from whole triples are passed over."""
+    hours = defaultdict(set)
+    for triple in zip(numbers[0::3], numbers[1::3], numbers[2::3]):
+        notice = Notice(*triple)
+        if notice.day < MASKED_DAYS and notice.end <= HOURS:
+            hours[notice.day] |= set(notice.hours())
+    return hours
+
+
+def warm_up_hours(event):
+    return [event.first - before for before in WARM_UP[notices.band_of(PROFILES[1], event)]]
+
+
+@cache
+def days_of_kind(winter, day):
+    """All days before the event day, the nearest first, "that are of its kind (weekday or
+    weekend) .. and are not excluded"."""
+    kinds = notices.day_kinds(winter)
+    return [
+        before
+        for before in reversed(range(day))
+        if (before in kinds.weekend) == (day in kinds.weekend) and before not in kinds.excluded
+    ]
+
+
+def serving_days(winter, numbers, day):
+    """Those of them that "carry no event at any hour"."""
+    hours = event_hours(numbers)
+    return [before for before in days_of_kind(winter, day) if not hours.get(before)]
+
+
+def reference_days(winter, numbers, day):
+    """"The five nearest" of them, or all if there are fewer."""
+    return serving_days(winter, numbers, day)[:REFERENCE_DAYS]
+
+
+def needed_hours(event, references):
+    """The hours of the needed readings, as pairs (day, hour) in this order: "event day, its
+    warm-up hours and then its event hours, ascending; then the reference days, nearest
+    first, each the same way"."""
+    hours = sorted(warm_up_hours(event)) + sorted(event.hours())
+    return [(day, hour) for day in (event.day, *references) for hour in hours]
+
+
+# From readings to spared energy.
+
+
+def average(values):
+    values = list(values)
+    return Fraction(sum(values)) / len(values)
+
+
+def usual(readings, references, hour):
+    """An hour's usual reading: of "its five reference readings less one smallest and less
+    one largest", whose sum is T, the average."""
+    _, *middle, _ = sorted(readings[day, hour] for day in references)
+    return average(middle)
+
+
+def spared_energy(event, references, readings):
+    """What the event spared: the usual readings of its hours, adjusted by as much as each
+    warm-up hour was above the usual on average, less its own readings."""
+    usual_event = sum(usual(readings, references, hour) for hour in event.hours())
+    own_event = sum(readings[event.day, hour] for hour in event.hours())
+    usual_warm_up = average(usual(readings, references, hour) for hour in warm_up_hours(event))
+    own_warm_up = average(readings[event.day, hour] for hour in warm_up_hours(event))
+
+    def adjusted(by):
+        return usual_event + by * len(event.hours()) - own_event
+
+    excess = own_warm_up - usual_warm_up
+    most = 2 * usual_warm_up
+    trial = adjusted(excess)
+    # "If the trial is above 720,000 (40 kWh), the smaller of 3A - B and 2B stands in place
+    # of 3A - B; otherwise 3A - B stays."
+    unfloored = adjusted(min(excess, most)) if trial > LIMIT_WH else trial
+    return Spared(trial, excess, most, unfloored)
+
+
+def eighteenths(energy):
+    """"Energies are whole numbers of eighteenths of a Wh."""
+    parts = energy * EIGHTEENTHS
+    assert parts.denominator == 1, energy
+    return parts.numerator
+
+
+# The answer.
+
+
+def refusal(query):
+    """The number of the first rule that the call breaks, 0 if it breaks none."""
+    if query.winter not in winters.WINTERS:
+        return 1
+    if query.length != HOURS * len(winters.book_dates(query.winter)):
+        return 2
+    if query.day not in notices.day_kinds(query.winter).period:
+        return 10
+    if notices.band_of(PROFILES[1], query.event()) is None:
+        return 13
+    return 0
+
+
+def fault(reading):
+    """"21 a needed reading missing; 22 a needed reading above 10,000,000"; 0 if neither."""
+    if reading == MISSING:
+        return 21
+    return 22 if reading > HIGHEST_READING else 0
+
+
+def event_answer(event, references, readings_of):
+    """The answer to an event; `readings_of` gives the readings at pairs (day, hour). "20
+    comes before 21 and 22", and of these "the first fault decides"."""
+    if len(references) < REFERENCE_DAYS:
+        return Answer(0, code=20)
+    readings = readings_of(needed_hours(event, references))
+    for pair, reading in readings.items():
+        if fault(reading):
+            return Answer(0, fault(reading), place_of(*pair))
+    return Answer(0, spared=spared_energy(event, references, readings))
+
+
+def answer(query):
+    """The answer to a query."""
+    number = refusal(query)
+    if number:
+        return Answer(number)
+    event = query.event()
+    references = reference_days(query.winter, query.numbers, event.day)
+    return event_answer(event, references, partial(readings_at, query))
+
+
+def energy_of(given):
+    """The energy of an event's line; "an unsettled line has energy 0"."""
+    return eighteenths(given.spared.energy()) if given.spared else 0
+
+
+def printed(given):
+    """An answer as it is printed."""
+    if given.number:
+        return str(given.number)
+    return winters.joined((0, given.code, given.place, energy_of(given)))
+
+
+def line(query):
+    """The whole answer to one query."""
+    return printed(answer(query))

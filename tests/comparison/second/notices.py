@@ -1,0 +1,228 @@
+"""The second program's list check: document 01's notices, told by sets of hours.
+
+A band is a set of hours, the event hours of a list are a set of pairs (day, hour), and a
+rule is a refusal number with a test. Sentences in quotation marks are document 01's.
+"""
+
+from dataclasses import dataclass, field
+from datetime import date, datetime, time, timedelta
+from functools import cache
+from typing import NamedTuple
+
+from second import winters
+
+MOST_NOTICES = 100
+
+
+@dataclass(frozen=True)
+class Profile:
+    """One column of document 01's table."""
+    bands: tuple
+    weekends: bool
+    lengths: frozenset
+    winter_hours: int
+
+
+PROFILES = {
+    1: Profile(
+        bands=(frozenset({6, 7, 8, 9}), frozenset({16, 17, 18, 19})),
+        weekends=True,
+        lengths=frozenset({1, 2, 3, 4}),
+        winter_hours=100,
+    ),
+    2: Profile(
+        bands=(frozenset({6, 7, 8}), frozenset({16, 17, 18, 19})),
+        weekends=False,
+        lengths=frozenset({3, 4}),
+        winter_hours=100,
+    ),
+}
+
+
+class DayKinds(NamedTuple):
+    """Three sets of the days of a winter."""
+    period: set
+    weekend: set
+    excluded: set
+
+
+@cache
+def day_kinds(winter):
+    """The days of the winter period ("days 30 to N-1", so from 1 December on), those of
+    weekends and the excluded ones."""
+    days = list(enumerate(winters.book_dates(winter)))
+    return DayKinds(
+        period={day for day, on in days if on >= date(winter, 12, 1)},
+        weekend={day for day, on in days if winters.is_weekend(on)},
+        excluded={day for day, on in days if on in winters.excluded_dates(winter)},
+    )
+
+
+class Notice(NamedTuple):
+    """A notice "is three numbers: day, first hour s, end e"."""
+    day: int
+    first: int
+    end: int
+
+    def hours(self):
+        """"Its hours are s to e-1". A range and no set, because the end may be any number
+        of 32 bits."""
+        return range(self.first, self.end)
+
+
+@dataclass
+class Standing:
+    """The notices that stand so far in a list, and their hours as pairs (day, hour)."""
+    winter: int
+    profile: Profile
+    notices: list = field(default_factory=list)
+    hours: set = field(default_factory=set)
+
+    def add(self, notice):
+        self.notices.append(notice)
+        self.hours |= day_hours(notice)
+
+
+def day_hours(notice):
+    """A notice's hours as pairs (day, hour)."""
+    return {(notice.day, hour) for hour in notice.hours()}
+
+
+def band_of(profile, notice):
+    """The one band that has all the notice's hours, None if there are no hours or no such
+    band. The look ends at the first hour outside the band, however far off the end is."""
+    for band in profile.bands:
+        if notice.hours() and all(hour in band for hour in notice.hours()):
+            return band
+    return None
+
+
+def moment(winter, day, hour):
+    """The date and time at which an hour begins."""
+    midnight = datetime.combine(winters.book_dates(winter)[day], time())
+    return midnight + timedelta(hours=hour)
+
+
+# The rules for the whole call. Each test says whether the rule is broken.
+
+
+def wrong_winter(winter, profile, numbers):
+    """"Y outside 2010..2098"."""
+    return winter not in winters.WINTERS
+
+
+def wrong_profile(winter, profile, numbers):
+    """"Profile neither 1 nor 2 (list check only)"."""
+    return profile not in PROFILES
+
+
+def wrong_length(winter, profile, numbers):
+    """"List not whole triples, or more than 100"."""
+    return len(numbers) % 3 != 0 or len(numbers) // 3 > MOST_NOTICES
+
+
+# The rules for a notice. Each test may count on the ones before it: a day that is looked
+# up is in the book, and hours that are gathered are the few of a band.
+
+
+def outside_winter_period(standing, notice):
+    """"Day outside the winter period"."""
+    return notice.day not in day_kinds(standing.winter).period
+
+
+def on_excluded_day(standing, notice):
+    """"Excluded day"."""
+    return notice.day in day_kinds(standing.winter).excluded
+
+
+def on_barred_weekend(standing, notice):
+    """"Weekend under profile 2", the profile without weekends."""
+    return not standing.profile.weekends and notice.day in day_kinds(standing.winter).weekend
+
+
+def not_in_one_band(standing, notice):
+    """"Hours empty, reversed or not inside one band"."""
+    return band_of(standing.profile, notice) is None
+
+
+def of_wrong_length(standing, notice):
+    """"Length not allowed"."""
+    return len(notice.hours()) not in standing.profile.lengths
+
+
+def starts_too_early(standing, notice):
+    """"Starts before the notice before it ends (earlier day, or same day and s below its
+    e)"."""
+    if not standing.notices:
+        return False
+    before = standing.notices[-1]
+    start = moment(standing.winter, notice.day, notice.first)
+    return start < moment(standing.winter, before.day, before.end)
+
+
+def in_same_band(standing, notice):
+    """"Same day and band as the notice before it"."""
+    if not standing.notices:
+        return False
+    before = standing.notices[-1]
+    bands = {band_of(standing.profile, one) for one in (before, notice)}
+    return notice.day == before.day and len(bands) == 1
+
+
+def over_winter_limit(standing, notice):
+    """"Total hours pass the winter's limit with this notice"."""
+    return len(standing.hours | day_hours(notice)) > standing.profile.winter_hours
+
+
+# "Order: list check 1, 5, 4, then the notices".
+CALL_RULES = (
+    (1, wrong_winter),
+    (5, wrong_profile),
+    (4, wrong_length),
+)
+
+# "Numbers 10 to 18 are tried in that order for the first notice, then the next".
+NOTICE_RULES = (
+    (10, outside_winter_period),
+    (11, on_excluded_day),
+    (12, on_barred_weekend),
+    (13, not_in_one_band),
+    (14, of_wrong_length),
+    (15, starts_too_early),
+    (16, in_same_band),
+    (18, over_winter_limit),
+)
+
+
+def list_check(winter, profile, numbers):
+    """The refusal number and the place, which is "the notice's index from 0"; and what
+    stands, if the list is accepted: "an accepted call's number and place are 0"."""
+    for number, broken in CALL_RULES:
+        if broken(winter, profile, numbers):
+            return number, 0, None
+    standing = Standing(winter, PROFILES[profile])
+    triples = zip(numbers[0::3], numbers[1::3], numbers[2::3])
+    for place, notice in enumerate(Notice(*triple) for triple in triples):
+        for number, broken in NOTICE_RULES:
+            if broken(standing, notice):
+                return number, place, None
+        standing.add(notice)
+    return 0, 0, standing
+
+
+def masks(hours):
+    """Day by day "24 bits, bit h for hour h", for the days that have event hours."""
+    days = sorted({day for day, _ in hours})
+    return {day: sum(2**hour for on, hour in hours if on == day) for day in days}
+
+
+def line(winter, profile, numbers):
+    """The whole answer to one query."""
+    number, place, standing = list_check(winter, profile, numbers)
+    if number:
+        return f"{number},{place}"
+    days = ",".join(f"{day}:{mask}" for day, mask in masks(standing.hours).items())
+    events = ",".join(
+        f"{min(notice.hours())}+{len(notice.hours())}" for notice in standing.notices
+    )
+    return f"0,0 masks={days} events={events}"

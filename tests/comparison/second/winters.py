@@ -1,0 +1,168 @@
+"""The second program's calendar: document 01's winters, told by Python's own dates.
+
+A winter's book is the list of its dates, a day is a place in that list, and
+weekdays are those of `datetime`. Each call gives a pair: the refusal number
+(0 if none) and the values. Sentences in quotation marks are document 01's.
+"""
+
+from datetime import date, timedelta
+from functools import cache
+
+WINTERS = range(2010, 2099)
+EASTER_YEARS = range(2011, 2100)
+
+WRONG_WINTER = 1
+WRONG_DAY = 10
+
+SUNDAY = 7
+SATURDAY = 6
+ONE_DAY = timedelta(1)
+
+# The Paschal full moon (month, day) by golden number, 1 to 19, as church calendars
+# print it for 1900 to 2199. A table on purpose: document 01 has a formula, and the
+# second program is to reach the same Easter by another way.
+PASCHAL_FULL_MOONS = (
+    (4, 14), (4, 3), (3, 23), (4, 11), (3, 31), (4, 18), (4, 8), (3, 28), (4, 16), (4, 5),
+    (3, 25), (4, 13), (4, 2), (3, 22), (4, 10), (3, 30), (4, 17), (4, 7), (3, 27),
+)
+
+HOURS = 24
+LONGEST_BOOK = 3648
+
+
+@cache
+def book_dates(winter):
+    """The dates of a book: it "runs from 1 November Y (day 0) to 31 March Y+1"."""
+    first = date(winter, 11, 1)
+    last = date(winter + 1, 3, 31)
+    return [first + timedelta(day) for day in range((last - first).days + 1)]
+
+
+def easter_sunday(year):
+    """The first Sunday after the Paschal full moon."""
+    month, day = PASCHAL_FULL_MOONS[year % 19]
+    on = date(year, month, day) + ONE_DAY
+    while on.isoweekday() != SUNDAY:
+        on += ONE_DAY
+    return on
+
+
+@cache
+def excluded_dates(winter):
+    """The six fixed days, "24, 25, 26, 31 December, 1 and 2 January", and "Good Friday
+    and Easter Monday where they are at or before 31 March", so where the book has them."""
+    easter_day = easter_sunday(winter + 1)
+    dates = {
+        date(winter, 12, 24),
+        date(winter, 12, 25),
+        date(winter, 12, 26),
+        date(winter, 12, 31),
+        date(winter + 1, 1, 1),
+        date(winter + 1, 1, 2),
+        easter_day - 2 * ONE_DAY,
+        easter_day + ONE_DAY,
+    }
+    return dates.intersection(book_dates(winter))
+
+
+def is_weekend(on):
+    """Whether a date is a Saturday or a Sunday."""
+    return on.isoweekday() in (SATURDAY, SUNDAY)
+
+
+def days(winter):
+    """A winter's "N days: 152 if Y+1 is a leap year (Gregorian), else 151"."""
+    if winter not in WINTERS:
+        return WRONG_WINTER, ()
+    return 0, (len(book_dates(winter)),)
+
+
+def easter(year):
+    """Month and day of "Easter Sunday of year y"; 1 for "a year outside 2011..2099"."""
+    if year not in EASTER_YEARS:
+        return WRONG_WINTER, ()
+    on = easter_sunday(year)
+    return 0, (on.month, on.day)
+
+
+def told_of_day(winter, day, tell):
+    """What `tell` says of the day's date; "1 for a winter outside 2010..2098",
+    "then 10 for a day outside the book"."""
+    if winter not in WINTERS:
+        return WRONG_WINTER, ()
+    if day >= len(book_dates(winter)):
+        return WRONG_DAY, ()
+    return 0, tell(book_dates(winter)[day])
+
+
+def weekday(winter, day):
+    """0 for Sunday to 6 for Saturday; "1 November 2026 is a Sunday"."""
+    return told_of_day(winter, day, lambda on: (on.isoweekday() % 7,))
+
+
+def weekend(winter, day):
+    """1 for a Saturday or a Sunday, else 0."""
+    return told_of_day(winter, day, lambda on: (int(is_weekend(on)),))
+
+
+def excluded(winter, day):
+    """1 for one of the "excluded days (document 000)", else 0."""
+    return told_of_day(winter, day, lambda on: (int(on in excluded_dates(winter)),))
+
+
+def date_of_day(winter, day):
+    """Month and day of the month; "1 December is day 30"."""
+    return told_of_day(winter, day, lambda on: (on.month, on.day))
+
+
+def book_day(winter, month, day_of_month):
+    """The book day of a date; 10 where the winter's book has no such date."""
+    if winter not in WINTERS:
+        return WRONG_WINTER, ()
+    for day, on in enumerate(book_dates(winter)):
+        if (on.month, on.day) == (month, day_of_month):
+            return 0, (day,)
+    return WRONG_DAY, ()
+
+
+def readings(winter, lent, day):
+    """A day's readings "are handed back as that very part of the lent book; where the
+    winter, the book's length or the day is wrong, the empty part"."""
+    number, _ = date_of_day(winter, day)
+    if number or len(lent) != HOURS * len(book_dates(winter)):
+        return lent[:0]
+    return lent[HOURS * day:HOURS * (day + 1)]
+
+
+def joined(numbers):
+    """Numbers as they are printed, with commas between them."""
+    return ",".join(str(number) for number in numbers)
+
+
+def numbered(answer):
+    """A pair as it is printed: the number, then the values."""
+    number, values = answer
+    return joined((number, *values))
+
+
+def printed_part(part):
+    """The length of a part of the book, then its first and last reading, if any."""
+    return joined((len(part), part[0], part[-1])) if part else "0"
+
+
+def line(w, a, b):
+    """The whole answer to one query."""
+    # A range is a book whose number at index i is i.
+    lent = range(min(b, LONGEST_BOOK))
+    fields = {
+        "days": numbered(days(w)),
+        "easter": numbered(easter(w)),
+        "weekday": numbered(weekday(w, a)),
+        "weekend": numbered(weekend(w, a)),
+        "excluded": numbered(excluded(w, a)),
+        "date": numbered(date_of_day(w, a)),
+        "book_day": numbered(book_day(w, a, b)),
+        "readings": printed_part(readings(w, lent, a)),
+    }
+    answers = " ".join(f"{call}={answer}" for call, answer in fields.items())
+    return f"{w},{a},{b} {answers}"
