@@ -33,11 +33,10 @@ def words_for(standard):
     return f"-std={standard}", *STRICT, f"-I{HEADER.parent}"
 
 
-def build_delivered(standard, sources, program, *crates):
-    """Builds an x86-64 program with the delivered archive, and those of other crates, and gives
-    it."""
+def build_delivered(standard, sources, program, crate="host"):
+    """Builds an x86-64 program with the delivered archive, and gives it."""
     words = (*words_for(standard), "-O2", "-static")
-    run(CROSS_COMPILER, *words, *sources, *map(archive, ("host", *crates)), "-o", program)
+    run(CROSS_COMPILER, *words, *sources, archive(crate), "-o", program)
     return program
 
 
@@ -52,12 +51,12 @@ def build_sanitized(standard, sources, program):
 
 
 @cache
-def driver(name, *others, crates=()):
+def driver(name, *others, crate="host"):
     """A driver of the comparison, which several test files ask: it is built once for all that
     tests/run runs, in the folder that it names."""
     program = Path(os.environ.get("TESTS_BUILT") or scratch()) / name
     if not program.exists():
         sources = [DRIVERS / f"{part}.c" for part in (name, *others)]
-        made = build_delivered("c99", sources, program.with_suffix(f".{os.getpid()}"), *crates)
+        made = build_delivered("c99", sources, program.with_suffix(f".{os.getpid()}"), crate)
         made.replace(program)
     return program

@@ -15,18 +15,15 @@ from cases.layers import both_of_days, fields
 from common.harness import Failure, run_tests
 from second import winters
 
-# What each call can give as its first number; the readings start with their length. The check
-# of a notice on the day gives two numbers, one for each profile.
+# What each call can give as its first number. The readings start with their length.
 POSSIBLE = {
     "days": ("0", "1"),
     "easter": ("0", "1"),
     "weekday": ("0", "1", "10"),
-    "weekend": ("0", "1", "10"),
-    "excluded": ("0", "1", "10"),
+    "kind": ("0", "1", "10"),
     "date": ("0", "1", "10"),
     "book_day": ("0", "1", "10"),
     "readings": ("0", "24"),
-    "check": ("0,0", "0,12", "1,1", "10,10", "11,11"),
 }
 
 # Queries that are mostly refused would compare little: this share of all of them
@@ -128,7 +125,7 @@ def check_queries(make, answered):
 def check_every_number(answered):
     """Each call gave each of its possible numbers at least once, and no other."""
     tally = Counter(
-        (call, answer if call == "check" else answer.partition(",")[0])
+        (call, answer.partition(",")[0])
         for _, line in answered
         for call, answer in fields(line).items()
     )

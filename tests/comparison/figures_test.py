@@ -50,16 +50,14 @@ def check_day(query, right):
 
 
 def check_excluded(winter, easter_days):
-    """The winter excludes the six fixed days, these, and no others, by both programs and by
-    both calls."""
+    """The winter excludes the six fixed days, these, and no others, by both programs."""
     queries = [(winter, day, 0) for day in range(len(winters.book_dates(winter)))]
     right = sorted(FIXED_DAYS.union(easter_days))
     for lines in both_of_days(queries):
-        for call, yes in (("excluded", "0,1"), ("check", "11,11")):
-            answers = [fields(line).get(call, "") for line in lines]
-            excluded = [day for day, answer in enumerate(answers) if answer == yes]
-            if excluded != right:
-                raise Failure(f"{call} has {excluded}, {right} is right")
+        kinds = [fields(line).get("kind", "") for line in lines]
+        excluded = [day for day, kind in enumerate(kinds) if kind.endswith(",1")]
+        if excluded != right:
+            raise Failure(f"excluded are {excluded}, {right} is right")
 
 
 def list_told(case, line):

@@ -9,8 +9,8 @@ use native.Mathlib.Omega.{arith}
 use lib.Dec.{eqb}
 use lib.ListN.{length}
 use borrow.Author.Tests.{eq-eqb, eqb-true}
-use Rattle.calendar.proofs.Promise.{days-two}
-use Rattle.calendar.specs.Winters.{days}
+use Rattle.dates.proofs.Promise.{days-two}
+use Rattle.dates.specs.Winters.{days}
 use Rattle.money.proofs.RefusalLaws.{RightCall}
 use Rattle.schedule.proofs.Bounds.{bad-lists-alike, one-is-bad}
 use Rattle.schedule.proofs.Walk.{list-fits}

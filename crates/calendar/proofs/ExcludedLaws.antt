@@ -1,17 +1,47 @@
 -- Laws of the excluded days: one for each way out of the walk over the fixed days and of the test.
 -- Assumes nothing.
-use Prim.Native.Nat.{ℕ, _+_, _<_}
-use mathlib.Core.Bool.{true, false, _||_}
+use Prim.Native.Nat.{ℕ, _+_, _≤_, _<_}
+use mathlib.Core.Bool.{Bool, true, false, _||_}
 use mathlib.Core.List.{List}
-use mathlib.Core.Path.{_≡_}
+use mathlib.Core.Logic.{_⊎_, inl, inr}
+use mathlib.Core.Path.{_≡_, refl}
 use native.Mathlib.Numerals.{add-one}
-use lib.Dec.{eqb}
+use native.Mathlib.Omega.{arith}
+use lib.Dec.{eqb, ltb}
 use lib.ListN.{length, getD, drop}
 use lib.Seq.{drop-cons}
-use borrow.Author.Tests.{eq-eqb, ne-eqb}
-use Rattle.calendar.specs.Easter.{easterInBook}
+use borrow.Author.Tests.{eq-eqb, ne-eqb, ltb-true}
 use Rattle.calendar.specs.Excluded.{among, fixedDays, goodFriday, easterMonday, excluded}
-use Rattle.calendar.specs.Winters.{noDay}
+use Rattle.calendar.specs.Days.{noDay}
+use Rattle.calendar.specs.declared.answers.Winter.{Winter}
+
+-- no day before the first fixed one or after the last is one of them
+pub outside-fixed : (d : ℕ) → (ltb d 53 || ltb 62 d) ≡ true → false ≡ among d fixedDays
+unfolding among
+outside-fixed d e = by (either (ltb d 53) (ltb 62 d) e)
+  where
+    either : (a b : Bool) → (a || b) ≡ true → (a ≡ true) ⊎ (b ≡ true)
+    either true b h = inl refl
+    either false b h = inr h
+
+    differ : (x : ℕ) → (53 ≤ x) × (x ≤ 62) → (d < 53) ⊎ (62 < d) → x ≡ d → ⊥
+    differ x r (inl h) q = omega arith
+    differ x r (inr h) q = omega arith
+
+    none : (d < 53) ⊎ (62 < d) → false ≡ among d fixedDays
+    none h =
+        rw (
+          ne-eqb 53 d (differ 53 (omega arith) h),
+          ne-eqb 54 d (differ 54 (omega arith) h),
+          ne-eqb 55 d (differ 55 (omega arith) h),
+          ne-eqb 60 d (differ 60 (omega arith) h),
+          ne-eqb 61 d (differ 61 (omega arith) h),
+          ne-eqb 62 d (differ 62 (omega arith) h),
+        )
+
+    by : (ltb d 53 ≡ true) ⊎ (ltb 62 d ≡ true) → false ≡ among d fixedDays
+    by (inl h) = none (inl (ltb-true d 53 h))
+    by (inr h) = none (inr (ltb-true 62 d h))
 
 pub among-found : (d : ℕ) (xs : List ℕ) (i : ℕ) → i < length xs → getD xs i 0 ≡ d → among d (drop i xs) ≡ true
 unfolding among
@@ -21,15 +51,11 @@ pub among-skip : (d : ℕ) (xs : List ℕ) (i : ℕ) → i < length xs → (getD
 unfolding among
 among-skip d xs i h n = rw (add-one, drop-cons xs i 0, ne-eqb (getD xs i 0) d n)
 
-pub excluded-fixed : (y d : ℕ) → among d fixedDays ≡ true → true ≡ excluded y d
+pub excluded-fixed : (w : Winter) (d : ℕ) → among d fixedDays ≡ true → true ≡ excluded w d
 unfolding excluded
-excluded-fixed y d f = rw f
+excluded-fixed w d f = rw f
 
-pub excluded-past : (y d : ℕ) → among d fixedDays ≡ false → noDay y d ≡ true → false ≡ excluded y d
-unfolding excluded
-excluded-past y d f n = rw (f, n)
-
--- of a book day that is no fixed day, with Easter Sunday on day e
-pub excluded-easter : (y d e : ℕ) → among d fixedDays ≡ false → noDay y d ≡ false → e ≡ easterInBook y → (eqb (d + 2) e || eqb d (e + 1)) ≡ excluded y d
+-- of a book day that is no fixed day
+pub excluded-easter : (w : Winter) (d : ℕ) → among d fixedDays ≡ false → noDay w d ≡ false → (eqb (d + 2) (w .easter) || eqb d (w .easter + 1)) ≡ excluded w d
 unfolding excluded goodFriday easterMonday
-excluded-easter y d e f n q = rw (f, n, q)
+excluded-easter w d f n = rw (f, n)

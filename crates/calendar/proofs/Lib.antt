@@ -1,9 +1,6 @@
 pub mod Bounds
-pub mod AnswerLaws
-pub mod ExcludedLaws
-pub mod DateLaws
-pub mod BookLaws
 pub mod Promise
-pub mod AllWinters
-pub mod DatesInverse
+pub mod BookLaws
+pub mod ExcludedLaws
+pub mod FactLaws
 pub mod OneOutcome

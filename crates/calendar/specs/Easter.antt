@@ -3,7 +3,7 @@
 use Prim.Native.Nat.{ℕ, _+_, _-_, _*_, _/_, _%_}
 use mathlib.Core.Bool.{Bool, _||_}
 use lib.Dec.{ltb}
-use Rattle.calendar.specs.Winters.{days}
+use Rattle.dates.specs.Winters.{days}
 
 -- "(Easter: a year outside 2011..2099)"
 unfoldable pub noEasterYear : ℕ → Bool
@@ -33,7 +33,11 @@ easterMonth y = easterT y / 31
 abbrev pub easterDay : ℕ → ℕ
 easterDay y = easterT y % 31 + 1
 
--- Easter Sunday of the year after as a day of the book of winter y, the count going on past the book's end:
--- k March is day N - 32 + k, since 31 March is day N - 1, and k April comes 31 days after k March
+-- how many days Easter Sunday of year y comes after 1 March: k April comes 31 days after k March
+abbrev pub afterMarchFirst : ℕ → ℕ
+afterMarchFirst y = 31 * (easterMonth y - 3) + easterDay y - 1
+
+-- Easter Sunday of the year after as a day of the book of winter y, the count going on past the book's end: 31 March is day N - 1, so that
+-- 1 March is day N - 31
 unfoldable pub easterInBook : ℕ → ℕ
-easterInBook y = days y - 32 + 31 * (easterMonth (y + 1) - 3) + easterDay (y + 1)
+easterInBook y = days y - 31 + afterMarchFirst (y + 1)

@@ -1,7 +1,7 @@
-pub mod Winters
-pub mod Weekdays
 pub mod Easter
+pub mod Weekdays
+pub mod WinterOf
+pub mod Days
 pub mod Excluded
-pub mod Dates
 pub mod Book
 pub mod Answers

@@ -4,20 +4,21 @@ use Prim.Native.Nat.{ℕ, _+_, _-_, _/_, _%_}
 use mathlib.Core.Bool.{Bool, _||_}
 use mathlib.Core.Path.{_≡_, refl}
 use lib.Dec.{eqb}
+use Rattle.calendar.specs.declared.answers.Winter.{Winter}
 
 -- the weekday of 1 November of year y: a common year moves it on by one, a leap year by two (Gregorian)
 unfoldable pub firstWeekday : ℕ → ℕ
 firstWeekday y = (y + y / 4 - y / 100 + y / 400 + 3) % 7
 
--- the weekday of day d of the book of winter y
-unfoldable pub weekday : ℕ → ℕ → ℕ
-weekday y d = (firstWeekday y + d) % 7
-
 -- "1 November 2026 is a Sunday."
-pub anchor : weekday 2026 0 ≡ 0
-unfolding weekday firstWeekday
+pub anchor : firstWeekday 2026 ≡ 0
+unfolding firstWeekday
 anchor = refl
 
+-- the weekday of day d of a winter's book
+unfoldable pub weekday : Winter → ℕ → ℕ
+weekday w d = (w .first + d) % 7
+
 -- a Saturday or a Sunday
-unfoldable pub weekend : ℕ → ℕ → Bool
-weekend y d = eqb (weekday y d) 0 || eqb (weekday y d) 6
+unfoldable pub weekend : Winter → ℕ → Bool
+weekend w d = eqb (weekday w d) 0 || eqb (weekday w d) 6

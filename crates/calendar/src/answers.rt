@@ -1,8 +1,17 @@
 // What the calendar's calls answer: one case for each thing that can be answered.
 
-// How many days the book of a winter has.
-pub enum Days {
-    Are(u32),
+// A winter's own facts, by which all questions on its days go: N, the first day of December, the weekday of day 0, 0 for Sunday, and
+// Easter Sunday as a book day, which may lie past the book.
+pub struct Winter {
+    pub days: u32,
+    pub december: u32,
+    pub first: u32,
+    pub easter: u32,
+}
+
+// The winter of a year, if it is one.
+pub enum Known {
+    Is(Winter),
     NoWinter,
 }
 
@@ -12,24 +21,16 @@ pub enum Sunday {
     NoYear,
 }
 
-// A number that belongs to a book day.
-pub enum Number {
-    Is(u32),
-    NoWinter,
-    NoDay,
+// What kind of day a book day is.
+pub struct Kind {
+    pub period: bool,
+    pub weekend: bool,
+    pub excluded: bool,
 }
 
-// Whether something holds of a book day.
-pub enum Fact {
-    Yes,
-    No,
-    NoWinter,
-    NoDay,
-}
-
-// The date of a book day: month and day of the month.
-pub enum Date {
-    On(u32, u32),
+// The kind of a day, if the book has it.
+pub enum DayKind {
+    Is(Kind),
     NoWinter,
     NoDay,
 }

@@ -3,24 +3,23 @@ ghost use mathlib.Core.Path.{_≡_};
 ghost use Prim.Native.Nat.{_+_, _*_};
 ghost use lib.ListN.{length};
 ghost use Rattle.calendar.specs.Book.{noPart, dayReadings, partStart};
-use crate::winters::days_in;
-use crate::winters::no_day;
-use crate::winters::no_winter;
+use crate::answers::Winter;
+use crate::winters::wrong_winter;
 
 // Whether a book of that length has no part for the day: the winter, the length or the day is wrong.
-fn no_part(winter: u32, length: usize, day: u32) -> bool
-    ensures { λ r. ⌜ r ≡ noPart winter length day ⌝ }
+fn no_part(w: Winter, length: usize, day: u32) -> bool
+    ensures { λ r. ⌜ r ≡ noPart w length day ⌝ }
 {
-    no_winter(winter) | (length != 24 * (days_in(winter) as usize)) | no_day(winter, day)
+    wrong_winter(w) | (length != 24 * (w.days as usize)) | (w.days <= day)
 }
 
 // A day's 24 readings: that very part of the lent book, 96 bytes a day from its start; the empty part where the winter,
 // the book's length or the day is wrong.
-pub fn day_readings(winter: u32, book: &[u32], day: u32) -> &[u32]
-    ensures contents { λ r. ⌜ now r ≡ dayReadings winter (now (book .entry)) day ⌝ }
-    ensures place { λ r. ⌜ (r .ptr .0 ≡ book .entry .ptr .0) × (r .ptr .1 ≡ book .entry .ptr .1 + 4 * partStart winter (length (now (book .entry))) day) ⌝ }
+pub fn day_readings(w: Winter, book: &[u32], day: u32) -> &[u32]
+    ensures contents { λ r. ⌜ now r ≡ dayReadings w (now (book .entry)) day ⌝ }
+    ensures place { λ r. ⌜ (r .ptr .0 ≡ book .entry .ptr .0) × (r .ptr .1 ≡ book .entry .ptr .1 + 4 * partStart w (length (now (book .entry))) day) ⌝ }
 {
-    if no_part(winter, book.len(), day) {
+    if no_part(w, book.len(), day) {
         return &book[0..0];
     }
     let start = 24 * (day as usize);

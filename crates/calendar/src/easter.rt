@@ -1,9 +1,9 @@
 // Easter Sunday.
 ghost use mathlib.Core.Path.{_≡_};
-ghost use Rattle.calendar.specs.Easter.{noEasterYear, easterT, easterInBook};
+ghost use Prim.Native.Nat.{_+_};
+ghost use Rattle.calendar.specs.Easter.{noEasterYear, easterT, afterMarchFirst};
 ghost use Rattle.calendar.specs.Answers.{sundayPaper, easterSunday};
 use crate::answers::Sunday;
-use crate::winters::days_in;
 
 // Whether a year is outside those whose Easter can fall into a winter.
 fn no_easter_year(year: u32) -> bool
@@ -31,14 +31,14 @@ fn easter_t(y: u64) -> u64
     h + l - 7 * m + 114
 }
 
-// Easter Sunday of the year after as a day of the winter's book; it may lie after the book's end.
-pub(crate) fn easter_in_book(winter: u32) -> u32
-    ensures { λ r. ⌜ r ≡ easterInBook winter ⌝ }
+// How many days after the first of March Easter Sunday of the year after comes.
+pub(crate) fn easter_after(winter: u32) -> u32
+    ensures { λ r. ⌜ r ≡ afterMarchFirst (winter + 1) ⌝ }
 {
     let t = easter_t(winter as u64 + 1) as u32;
     let month = t / 31;
     let day = t % 31 + 1;
-    days_in(winter) - 32 + 31 * (month - 3) + day
+    31 * (month - 3) + day - 1
 }
 
 // Easter Sunday of a year, 2011 to 2099: its month and day.

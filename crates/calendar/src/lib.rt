@@ -1,26 +1,21 @@
-// The winter calendar: winters and their books' days, weekdays, Easter, excluded days, dates, and a day's part of a book.
-// Every call takes any numbers. Those that answer an enum refuse a winter outside 2010..2098 and then a day outside the book.
+// The winter calendar: a winter's own facts, the kind of each of its days, weekdays, Easter, and a day's part of a book.
+// Every call takes any numbers. A winter outside 2010..2098 is refused where its facts are asked for, a day outside its book after that.
 mod answers;
 mod book;
-mod dates;
 mod easter;
 mod excluded;
+mod kinds;
 mod weekdays;
 mod winters;
 
-pub use answers::Date;
-pub use answers::Days;
-pub use answers::Fact;
-pub use answers::Number;
+pub use answers::DayKind;
+pub use answers::Kind;
+pub use answers::Known;
 pub use answers::Sunday;
+pub use answers::Winter;
 pub use book::day_readings;
-pub use dates::book_day_of;
-pub use dates::date_of;
 pub use easter::easter_sunday;
-pub use excluded::excluded_day;
-pub use excluded::is_excluded;
-pub use weekdays::is_weekend;
+pub use kinds::kind_of;
 pub use weekdays::weekday_of;
-pub use weekdays::weekend_day;
-pub use winters::in_period;
-pub use winters::winter_days;
+pub use winters::winter_of;
+pub use winters::wrong_winter;

@@ -1,63 +1,47 @@
 // Weekdays of the book's days, counted from Sunday, 0, to Saturday, 6.
 ghost use mathlib.Core.Path.{_≡_};
-ghost use mathlib.Core.List.{[], _∷_};
-ghost use Rattle.laws.specs.Answer.{bit};
-ghost use Rattle.calendar.specs.Weekdays.{weekday, weekend};
-ghost use Rattle.calendar.specs.Answers.{numberPaper, factPaper, ofDay, weekdayOf, weekendDay};
-use crate::answers::Fact;
-use crate::answers::Number;
-use crate::winters::no_day;
-use crate::winters::no_winter;
+ghost use Prim.Native.Nat.{_<_};
+ghost use Rattle.dates.specs.Answers.{numberPaper};
+ghost use Rattle.calendar.specs.Answers.{weekdayOf};
+ghost use Rattle.calendar.specs.Weekdays.{firstWeekday, weekday, weekend};
+use crate::answers::Known;
+use crate::answers::Winter;
+use crate::winters::winter_of;
+use dates::Number;
 
-// The weekday of a day, counted on from that of 1 November. In 64 bits no sum wraps, whatever the winter.
-fn weekday_in(winter: u32, day: u32) -> u32
-    ensures { λ r. ⌜ r ≡ weekday winter day ⌝ }
+// The weekday of 1 November. In 64 bits no sum wraps, whatever the winter.
+pub(crate) fn first_weekday(winter: u32) -> u32
+    ensures { λ r. ⌜ r ≡ firstWeekday winter ⌝ }
 {
     let y = winter as u64;
-    let first = (y + y / 4 - y / 100 + y / 400 + 3) % 7;
-    ((first + day as u64) % 7) as u32
+    ((y + y / 4 - y / 100 + y / 400 + 3) % 7) as u32
 }
 
-// The answer to a question on a book day, whose truth is already known.
-pub(crate) fn fact_of(winter: u32, day: u32, holds: bool) -> Fact
-    ensures { λ r. ⌜ factPaper r ≡ ofDay winter day (bit holds ∷ []) ⌝ }
+// The weekday of a day, counted on from that of day 0.
+fn weekday_in(w: Winter, day: u32) -> u32
+    ensures { λ r. ⌜ r ≡ weekday w day ⌝ }
 {
-    if no_winter(winter) {
-        return Fact::NoWinter;
-    }
-    if no_day(winter, day) {
-        return Fact::NoDay;
-    }
-    if holds {
-        return Fact::Yes;
-    }
-    Fact::No
+    ((w.first as u64 + day as u64) % 7) as u32
+}
+
+// Whether a day is a Saturday or a Sunday.
+pub(crate) fn is_weekend(w: Winter, day: u32) -> bool
+    ensures { λ r. ⌜ r ≡ weekend w day ⌝ }
+{
+    let weekday = weekday_in(w, day);
+    (weekday == 0) | (weekday == 6)
 }
 
 // The weekday of a book day, 0 for Sunday to 6 for Saturday.
 pub fn weekday_of(winter: u32, day: u32) -> Number
     ensures { λ r. ⌜ numberPaper r ≡ weekdayOf winter day ⌝ }
 {
-    if no_winter(winter) {
+    let known = winter_of(winter);
+    let Known::Is(w) = known else {
         return Number::NoWinter;
-    }
-    if no_day(winter, day) {
+    };
+    if w.days <= day {
         return Number::NoDay;
     }
-    Number::Is(weekday_in(winter, day))
-}
-
-// Whether a day is a Saturday or a Sunday: the test for the crates above, which know that it is a book day.
-pub fn is_weekend(winter: u32, day: u32) -> bool
-    ensures { λ r. ⌜ r ≡ weekend winter day ⌝ }
-{
-    let weekday = weekday_in(winter, day);
-    (weekday == 0) | (weekday == 6)
-}
-
-// Whether a book day is a Saturday or a Sunday.
-pub fn weekend_day(winter: u32, day: u32) -> Fact
-    ensures { λ r. ⌜ factPaper r ≡ weekendDay winter day ⌝ }
-{
-    fact_of(winter, day, is_weekend(winter, day))
+    Number::Is(weekday_in(w, day))
 }

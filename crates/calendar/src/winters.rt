@@ -1,55 +1,45 @@
-// Winters and the days of their books.
+// A winter's own facts, worked out once and handed on by value.
 ghost use mathlib.Core.Path.{_≡_};
-ghost use Prim.Native.Nat.{_+_};
-ghost use Rattle.calendar.specs.Winters.{noWinter, leap, days, noDay, inPeriod};
-ghost use Rattle.calendar.specs.Answers.{daysPaper, winterDays};
-use crate::answers::Days;
+ghost use Rattle.calendar.specs.Answers.{knownPaper, winterFacts};
+ghost use Rattle.calendar.specs.Days.{wrongWinter};
+ghost use Rattle.calendar.specs.WinterOf.{firstOf};
+use crate::answers::Known;
+use crate::answers::Winter;
+use crate::easter::easter_after;
+use crate::weekdays::first_weekday;
+use dates::Days;
+use dates::Number;
 
-// Whether no winter has that name: a winter is named by the year of its December, 2010 to 2098.
-pub(crate) fn no_winter(winter: u32) -> bool
-    ensures { λ r. ⌜ r ≡ noWinter winter ⌝ }
+// Whether no winter has such facts: any may be handed over.
+pub fn wrong_winter(w: Winter) -> bool
+    ensures { λ r. ⌜ r ≡ wrongWinter w ⌝ }
 {
-    (winter < 2010) | (2098 < winter)
+    (w.days < 151) | (152 < w.days)
 }
 
-// Whether the winter's February, the next year's, has a leap day (Gregorian). In 64 bits the next year fits, whatever the winter.
-pub(crate) fn has_leap_day(winter: u32) -> bool
-    ensures { λ r. ⌜ r ≡ leap (winter + 1) ⌝ }
+// The first day of a month of the winter, 0 where its book has no such month.
+fn first_of(winter: u32, month: u32) -> u32
+    ensures { λ r. ⌜ r ≡ firstOf winter month ⌝ }
 {
-    let year = winter as u64 + 1;
-    (year % 4 == 0) & ((year % 100 != 0) | (year % 400 == 0))
-}
-
-// N, the days of a winter's book.
-pub(crate) fn days_in(winter: u32) -> u32
-    ensures { λ r. ⌜ r ≡ days winter ⌝ }
-{
-    if has_leap_day(winter) {
-        return 152;
+    match dates::book_day_of(winter, month, 1) {
+        Number::Is(day) => day,
+        Number::NoWinter => 0,
+        Number::NoDay => 0,
     }
-    151
 }
 
-// Whether a day is outside the winter's book.
-pub(crate) fn no_day(winter: u32, day: u32) -> bool
-    ensures { λ r. ⌜ r ≡ noDay winter day ⌝ }
+// The facts of a winter.
+pub fn winter_of(winter: u32) -> Known
+    ensures { λ r. ⌜ knownPaper r ≡ winterFacts winter ⌝ }
 {
-    days_in(winter) <= day
-}
-
-// The number of days of a winter's book.
-pub fn winter_days(winter: u32) -> Days
-    ensures { λ r. ⌜ daysPaper r ≡ winterDays winter ⌝ }
-{
-    if no_winter(winter) {
-        return Days::NoWinter;
-    }
-    Days::Are(days_in(winter))
-}
-
-// Whether a day is in the winter period, 1 December to 31 March.
-pub fn in_period(winter: u32, day: u32) -> bool
-    ensures { λ r. ⌜ r ≡ inPeriod winter day ⌝ }
-{
-    (30 <= day) & (day < days_in(winter))
+    let counted = dates::winter_days(winter);
+    let Days::Are(days) = counted else {
+        return Known::NoWinter;
+    };
+    Known::Is(Winter {
+        days,
+        december: first_of(winter, 12),
+        first: first_weekday(winter),
+        easter: first_of(winter, 3) + easter_after(winter),
+    })
 }

@@ -6,6 +6,7 @@ use mathlib.Core.List.{List, [], _∷_}
 use mathlib.Core.Path.{_≡_, refl, sym, _∙_}
 use native.Mathlib.Nat.{one-mul}
 use lib.ListN.{length}
+use Rattle.calendar.specs.declared.answers.Winter.{Winter}
 use Rattle.laws.proofs.Every.{Every, imply}
 use Rattle.notices.specs.declared.notices.Notice.{Notice}
 use Rattle.energy.specs.Asked.{Asked, askedBy, needed}
@@ -33,7 +34,7 @@ module _ (book other : List ℕ) where
   unfolding lineOf
   line-agrees q a = rw (fault-agrees (needed q) a, energy-agrees q a)
 
-  pub event-agrees : (y : ℕ) (masks : List ℕ) (n : Notice) → length book ≡ length other → Every Agrees (needed (askedBy y masks n))
-      → eventAnswer y book masks n ≡ eventAnswer y other masks n
+  pub event-agrees : (w : Winter) (masks : List ℕ) (n : Notice) → length book ≡ length other → Every Agrees (needed (askedBy w masks n))
+      → eventAnswer w book masks n ≡ eventAnswer w other masks n
   unfolding eventAnswer
-  event-agrees y masks n e a = rw (e, line-agrees (askedBy y masks n) a)
+  event-agrees w masks n e a = rw (e, line-agrees (askedBy w masks n) a)

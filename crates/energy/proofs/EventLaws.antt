@@ -1,18 +1,18 @@
 -- Theorems of the call on one event: where it is not refused, every needed place lies in the book; and a settled event's energy is at
 -- most 1,500,000,000 eighteenths of a Wh.
 -- Assumes nothing.
-use Prim.Native.Nat.{ℕ, zero, suc, _+_, _-_, _*_, _≤_, _<_}
-use mathlib.Core.Bool.{Bool, true, false, cond}
+use Prim.Native.Nat.{ℕ, _+_, _-_, _*_, _≤_, _<_}
+use mathlib.Core.Bool.{false}
 use mathlib.Core.List.{List, [], _∷_, _++_, map}
 use mathlib.Core.Path.{_≡_, refl, sym, ap, _∙_}
 use native.Mathlib.Nat.{mul-add}
 use native.Mathlib.Omega.{arith}
-use lib.Dec.{ltb}
 use lib.ListN.{length, getD, length-map}
 use borrow.Author.Tests.{eqb-true, not-false}
 use Rattle.calendar.proofs.BookLaws.{part-there, part-earlier, place-in}
-use Rattle.calendar.proofs.Promise.{period-day}
+use Rattle.calendar.proofs.Promise.{in-book}
 use Rattle.calendar.specs.Book.{noPart}
+use Rattle.calendar.specs.declared.answers.Winter.{Winter}
 use Rattle.laws.proofs.Every.{Every, left, right, joined, imply, map-of}
 use Rattle.laws.proofs.Refusals.{passed}
 use Rattle.laws.specs.Answer.{Answer, given}
@@ -23,36 +23,22 @@ use Rattle.energy.specs.HoursOf.{Spans}
 use Rattle.energy.specs.Line.{settled, lineOf, eventAnswer}
 use Rattle.energy.specs.Readings.{largestReading}
 use Rattle.energy.specs.ReferenceDays.{referenceDays}
-use Rattle.energy.proofs.CallLaws.{in-band}
 use Rattle.energy.proofs.EnergyBound.{trimmed-bound, spared-bound}
-use Rattle.energy.proofs.HourLaws.{hours-long}
+use Rattle.energy.proofs.HourLaws.{in-band, InDay, hours-long, hours-below, warm-below}
 use Rattle.energy.proofs.Nearest.{refs-serve, refs-few}
 use Rattle.energy.proofs.Scaled.{at-hours}
 use Rattle.energy.proofs.Unsettled.{Right, settled-where, settled-only}
 
 -- places
 
-hours-below : (s k : ℕ) → s + k ≤ 24 → Every (λ (h : ℕ). h < 24) (hoursFrom s k)
-unfolding hoursFrom
-hours-below s zero b = tt
-hours-below s (suc k) b = (omega arith, hours-below (suc s) k (omega arith))
-
-warm-below : (s : ℕ) → s ≤ 20 → Every (λ (h : ℕ). h < 24) (warmUp s)
-unfolding warmUp
-warm-below s b = by (ltb s 16)
-  where
-    by : (m : Bool) → Every (λ (h : ℕ). h < 24) (cond m (hoursFrom (s - 5) 3) (hoursFrom (s - 4) 2))
-    by true = hours-below (s - 5) 3 (omega arith)
-    by false = hours-below (s - 4) 2 (omega arith)
-
-places-in : (y len : ℕ) (hours ds : List ℕ) → Every (λ (h : ℕ). h < 24) hours → Every (λ (d : ℕ). noPart y len d ≡ false) ds
+places-in : (w : Winter) (len : ℕ) (hours ds : List ℕ) → Every InDay hours → Every (λ (d : ℕ). noPart w len d ≡ false) ds
     → Every (λ (p : ℕ). p < len) (placesOn hours ds)
 unfolding placesOn
-places-in y len hours [] h e = tt
-places-in y len hours (d ∷ ds) h e =
+places-in w len hours [] h e = tt
+places-in w len hours (d ∷ ds) h e =
     joined _ (placesOf d hours) (placesOn hours ds)
-    (map-of _ (λ (x : ℕ). 24 * d + x) hours (imply _ _ (λ x b. place-in y len d x (e .0) b) hours h))
-    (places-in y len hours ds h (e .1))
+    (map-of _ (λ (x : ℕ). 24 * d + x) hours (imply _ _ (λ x b. place-in w len d x (e .0) b) hours h))
+    (places-in w len hours ds h (e .1))
 
 -- readings: those of a clean event are at most the largest
 
@@ -76,7 +62,8 @@ module _ (book : List ℕ) (q : Asked) (five : length (q .refs) ≡ 5) (all : Ev
   unfolding trimmedAt
   trimmed-most =
       imply HourMost _
-      (λ h x. trimmed-bound largestReading (map (λ (d : ℕ). drawnAt book d h) (q .refs)) (simp length-map five) (map-of _ (λ (d : ℕ). drawnAt book d h) (q .refs) (x .1)))
+      (λ h x. trimmed-bound largestReading (map (λ (d : ℕ). drawnAt book d h) (q .refs)) (simp length-map five)
+      (map-of _ (λ (d : ℕ). drawnAt book d h) (q .refs) (x .1)))
       (q .warm ++ q .event)
       hours-most
 
@@ -87,36 +74,39 @@ module _ (book : List ℕ) (q : Asked) (five : length (q .refs) ≡ 5) (all : Ev
       (sum-most (trimmedAt book (q .refs)) (3 * largestReading) (q .event) (right _ (q .warm) (q .event) trimmed-most))
       (sum-most (drawnAt book (q .day)) largestReading (q .warm) (left _ (q .warm) (q .event) drawn-most))
 
-module _ (y : ℕ) (book masks : List ℕ) (n : Notice) where
+module _ (w : Winter) (book masks : List ℕ) (n : Notice) where
   -- a call that is not refused: the day is in the book, the hours lie in a band, and the line is the answer
-  taken : (vs : List ℕ) → eventAnswer y book masks n ≡ given vs
-      → (noPart y (length book) (n .day) ≡ false) × Spans (n .start) (n .end) × (lineOf book (askedBy y masks n) ≡ given vs)
+  taken : (vs : List ℕ) → eventAnswer w book masks n ≡ given vs
+      → (noPart w (length book) (n .day) ≡ false) × Spans (n .start) (n .end) × (lineOf book (askedBy w masks n) ≡ given vs)
   unfolding eventAnswer
   taken vs e =
       let a = passed 0 _ _ vs e in
       let b = passed 1 _ _ vs (a .1) in
       let c = passed 9 _ _ vs (b .1) in
       let d = passed 12 _ _ vs (c .1) in
-      (part-there y (length book) (n .day) (a .0) (eqb-true _ _ (not-false _ (b .0))) (period-day y (n .day) .0 (not-false _ (c .0)) .1), in-band _ n refl (d .0), d .1)
+      let there = part-there w (length book) (n .day) (a .0) (eqb-true _ _ (not-false _ (b .0))) (in-book w (n .day) (not-false _ (c .0))) in
+      (there, in-band _ n refl (d .0), d .1)
 
-  pub needed-in : (vs : List ℕ) → eventAnswer y book masks n ≡ given vs → Every (λ (p : ℕ). p < length book) (needed (askedBy y masks n))
+  pub needed-in : (vs : List ℕ) → eventAnswer w book masks n ≡ given vs → Every (λ (p : ℕ). p < length book) (needed (askedBy w masks n))
   unfolding needed askedBy
   needed-in vs e =
       let t = taken vs e in
       let s = t .1 in
-      places-in y (length book) _ _
-      (joined _ (warmUp (n .start)) (hoursFrom (n .start) (n .end - n .start)) (warm-below (n .start) (omega (arith, s .in-day, s .some-hour))) (hours-below (n .start) (n .end - n .start) (omega (arith, s .in-day, s .some-hour))))
-      (t .0, imply _ _ (λ d x. part-earlier y (length book) (n .day) d (t .0) (omega (arith, x .0))) (referenceDays y masks (n .day)) (refs-serve y masks (n .day)))
+      let warm = warm-below (n .start) (omega (arith, s .in-day, s .some-hour)) in
+      let event = hours-below (n .start) (n .end - n .start) (omega (arith, s .in-day, s .some-hour)) in
+      let refs =
+      imply _ _ (λ d x. part-earlier w (length book) (n .day) d (t .0) (omega (arith, x .0))) (referenceDays w masks (n .day)) (refs-serve w masks (n .day)) in
+      places-in w (length book) _ _ (joined InDay (warmUp (n .start)) (hoursFrom (n .start) (n .end - n .start)) warm event) (t .0, refs)
 
-  pub energy-most : (e : ℕ) → eventAnswer y book masks n ≡ settled e → e ≤ 1500000000
+  pub energy-most : (e : ℕ) → eventAnswer w book masks n ≡ settled e → e ≤ 1500000000
   unfolding askedBy
   energy-most e q =
       let t = taken (0 ∷ 0 ∷ e ∷ []) q in
-      let l = settled-only book (askedBy y masks n) (ap (λ (a : Answer). getD (a .values) 0 0) (t .2)) in
-      let same = sym (settled-where book (askedBy y masks n) (l .0) (l .1)) ∙ t .2 in
+      let l = settled-only book (askedBy w masks n) (ap (λ (a : Answer). getD (a .values) 0 0) (t .2)) in
+      let same = sym (settled-where book (askedBy w masks n) (l .0) (l .1)) ∙ t .2 in
       omega (
         arith,
         ap (λ (a : Answer). getD (a .values) 2 0) same,
-        readings-most book (askedBy y masks n) (omega (arith, l .0, refs-few y masks (n .day))) (l .1)
+        readings-most book (askedBy w masks n) (omega (arith, l .0, refs-few w masks (n .day))) (l .1)
             (omega (arith, hours-long (n .start) (n .end - n .start), t .1 .few)),
       )

@@ -9,8 +9,11 @@ use native.Mathlib.Omega.{arith}
 use lib.Dec.{eqb}
 use lib.ListN.{length, getD}
 use borrow.Author.Tests.{eq-eqb}
-use Rattle.calendar.proofs.Promise.{winter-range, period-day}
-use Rattle.calendar.specs.Winters.{days, inPeriod}
+use Rattle.calendar.proofs.Promise.{facts-days, facts-right, period-day}
+use Rattle.dates.specs.Winters.{days}
+use Rattle.calendar.specs.Days.{inPeriod}
+use Rattle.calendar.specs.WinterOf.{winterOf}
+use Rattle.calendar.specs.declared.answers.Winter.{Winter}
 use Rattle.laws.proofs.Refusals.{kept, either-way}
 use Rattle.laws.specs.Answer.{Answer, given, refuse}
 use Rattle.notices.proofs.HourLaws.{hours-iff}
@@ -41,11 +44,11 @@ fault-paper Clean energy = record { line = LineCase.Settled energy; paper = refl
 fault-paper (Missing place) energy = record { line = LineCase.Missing place; paper = refl }
 fault-paper (TooLarge place) energy = record { line = LineCase.TooLarge place; paper = refl }
 
-event-paper : (y : ℕ) (book masks : List ℕ) (n : Notice) → Paper (eventAnswer y book masks n)
+event-paper : (w : Winter) (book masks : List ℕ) (n : Notice) → Paper (eventAnswer w book masks n)
 unfolding eventAnswer lineOf
-event-paper y book masks n =
+event-paper w book masks n =
     refuse-paper _ LineCase.NoWinter _ (refuse-paper _ LineCase.BadBook _ (refuse-paper _ LineCase.OutsidePeriod _ (refuse-paper _ LineCase.BadHours _
-    (refuse-paper _ LineCase.FewDays _ (fault-paper (firstFault book (needed (askedBy y masks n))) (energyOf book (askedBy y masks n)))))))
+    (refuse-paper _ LineCase.FewDays _ (fault-paper (firstFault book (needed (askedBy w masks n))) (energyOf book (askedBy w masks n)))))))
 
 -- the energy of an answer: the third value, 0 where there is none
 abbrev pub energyOn : Answer → ℕ
@@ -61,10 +64,10 @@ line-most LineCase.BadBook m = omega arith
 line-most LineCase.OutsidePeriod m = omega arith
 line-most LineCase.BadHours m = omega arith
 
-pub answer-most : (y : ℕ) (book masks : List ℕ) (n : Notice) → energyOn (eventAnswer y book masks n) ≤ 1500000000
-answer-most y book masks n =
-    let p = event-paper y book masks n in
-    rw (← p .paper) (line-most (p .line) (λ e q. energy-most y book masks n e (sym (p .paper) ∙ q)))
+pub answer-most : (w : Winter) (book masks : List ℕ) (n : Notice) → energyOn (eventAnswer w book masks n) ≤ 1500000000
+answer-most w book masks n =
+    let p = event-paper w book masks n in
+    rw (← p .paper) (line-most (p .line) (λ e q. energy-most w book masks n e (sym (p .paper) ∙ q)))
 
 -- code, place and energy are all that a line has
 abbrev pub threeOf : Answer → Answer
@@ -81,12 +84,14 @@ line-three book q =
     either-way (λ (a : Answer). a ≡ threeOf a) _ (λ few. refl) (λ enough. fault-three (firstFault book (needed q)) (energyOf book q))
 
 -- an event of a list that stands is given its line
-pub event-given : (y : ℕ) (book masks : List ℕ) (n : Notice) → (2010 ≤ y) × (y ≤ 2098) → length book ≡ 24 * days y → Sound y (figuresOf Credit) n
-    → eventAnswer y book masks n ≡ threeOf (eventAnswer y book masks n)
+pub event-given : (y : ℕ) (book masks : List ℕ) (n : Notice) → length book ≡ 24 * days y → Sound y (figuresOf Credit) n
+    → eventAnswer (winterOf y) book masks n ≡ threeOf (eventAnswer (winterOf y) book masks n)
 unfolding eventAnswer
-event-given y book masks n w b s =
-    let day : not (inPeriod y (n .day)) ≡ false = rw (period-day y (n .day) .1 (s .period)) in
-    let length-right : not (eqb (length book) (24 * days y)) ≡ false = rw (eq-eqb (length book) (24 * days y) b) in
-    let e : lineOf book (askedBy y masks n) ≡ eventAnswer y book masks n =
-    kept _ (winter-range y .1 w) (kept _ length-right (kept _ day (kept _ (hours-iff (figuresOf Credit) n .1 (s .some-hour, s .band)) refl))) in
-    rw (← e) (line-three book (askedBy y masks n))
+event-given y book masks n b s =
+    let w = winterOf y in
+    let day : not (inPeriod w (n .day)) ≡ false = rw (period-day y (n .day) .1 (s .period)) in
+    let long : length book ≡ 24 * w .days = omega (arith, facts-days y) in
+    let length-right : not (eqb (length book) (24 * w .days)) ≡ false = rw (eq-eqb (length book) (24 * w .days) long) in
+    let e : lineOf book (askedBy w masks n) ≡ eventAnswer w book masks n =
+    kept _ (facts-right y) (kept _ length-right (kept _ day (kept _ (hours-iff (figuresOf Credit) n .1 (s .some-hour, s .band)) refl))) in
+    rw (← e) (line-three book (askedBy w masks n))

@@ -1,33 +1,38 @@
 -- The hours of an event as the code holds them are document 01's: three warm-up hours before a morning event, two before an evening
--- event, and then the event's own, one for each.
+-- event, and then the event's own. They come from rule 13, and lie in the day; a run of hours is its first hour and the rest.
 -- Assumes nothing.
 use Prim.Native.Nat.{ℕ, zero, suc, _+_, _-_, _≤_, _<_}
-use mathlib.Core.List.{List, [], _∷_}
-use mathlib.Core.Path.{_≡_, refl, ap, _∙_}
+use mathlib.Core.Bool.{Bool, true, false, cond}
+use mathlib.Core.List.{[], _∷_}
+use mathlib.Core.Logic.{_⊎_, ⊎-elim}
+use mathlib.Core.Path.{_≡_, refl, ap}
+use native.Mathlib.Numerals.{add-one}
 use native.Mathlib.Omega.{arith}
-use lib.ListN.{length, getD, take}
+use lib.Dec.{ltb}
+use lib.ListN.{length}
 use borrow.Author.Tests.{lt-ltb, le-ltb}
-use Rattle.notices.specs.Profiles.{eveningStart}
+use Rattle.laws.proofs.Every.{Every}
+use Rattle.notices.proofs.HourLaws.{Morning, Evening, hours-iff}
+use Rattle.notices.specs.Hours.{badHours}
+use Rattle.notices.specs.Profiles.{eveningStart, figuresOf}
+use Rattle.notices.specs.Sane.{sane}
+use Rattle.notices.specs.declared.notices.Notice.{Notice}
+use Rattle.notices.specs.declared.profiles.Figures.{Figures}
+use Rattle.notices.specs.declared.profiles.Profile.the-variants.{Credit}
 use Rattle.energy.specs.Asked.{hoursFrom, warmUp}
-use Rattle.energy.specs.Held.{span}
-use Rattle.energy.specs.HoursOf.{Spans, HoursFor}
+use Rattle.energy.specs.HoursOf.{run, Spans, HoursFor}
 
--- up to four hours from s on
-four : (s n : ℕ) (rest : List ℕ) → n ≤ 4 → take n (s ∷ (s + 1) ∷ (s + 2) ∷ (s + 3) ∷ rest) ≡ hoursFrom s n
-unfolding hoursFrom
-four s zero rest h = refl
-four s (suc zero) rest h = refl
-four s (suc (suc zero)) rest h = let a : s + 1 ≡ suc s = omega arith in rw a
-four s (suc (suc (suc zero))) rest h =
-    let a : s + 1 ≡ suc s = omega arith in
-    let b : s + 2 ≡ suc (suc s) = omega arith in
-    rw (a, b)
-four s (suc (suc (suc (suc zero)))) rest h =
-    let a : s + 1 ≡ suc s = omega arith in
-    let b : s + 2 ≡ suc (suc s) = omega arith in
-    let c : s + 3 ≡ suc (suc (suc s)) = omega arith in
-    rw (a, b, c)
-four s (suc (suc (suc (suc (suc n))))) rest h = absurd (omega arith)
+-- hours that rule 13 does not refuse under the winter credit lie in a band
+pub in-band : (f : Figures) (n : Notice) → f ≡ figuresOf Credit → badHours f n ≡ false → Spans (n .start) (n .end)
+in-band f n fe e =
+    let p = hours-iff (figuresOf Credit) n .0 (rw (← fe) e) in
+    let ok = sane Credit in
+    let some = p .0 in
+    let ten = ok .morning in
+    ⊎-elim
+    (λ (m : Morning (figuresOf Credit) n). record { late = m .0; some-hour = some; few = omega arith; in-day = omega arith })
+    (λ (m : Evening n). record { late = omega arith; some-hour = some; few = omega arith; in-day = m .1 })
+    (p .1)
 
 -- as many hours as asked for
 pub hours-long : (s n : ℕ) → length (hoursFrom s n) ≡ n
@@ -35,68 +40,58 @@ unfolding hoursFrom
 hours-long s zero = refl
 hours-long s (suc n) = ap suc (hours-long (suc s) n)
 
-morning-warm : (s : ℕ) → 6 ≤ s → s < eveningStart → (s - 5) ∷ (s - 4) ∷ (s - 3) ∷ [] ≡ warmUp s
-unfolding warmUp hoursFrom
-morning-warm s h b =
-    let a : s - 4 ≡ suc (s - 5) = omega arith in
-    let c : s - 3 ≡ suc (suc (s - 5)) = omega arith in
-    rw (lt-ltb s 16 b, a, c)
+-- hours that end with the day are hours of the day
+abbrev pub InDay : ℕ → Type 0
+InDay h = h < 24
 
-evening-warm : (s : ℕ) → eveningStart ≤ s → (s - 4) ∷ (s - 3) ∷ [] ≡ warmUp s
-unfolding warmUp hoursFrom
-evening-warm s b = let a : s - 3 ≡ suc (s - 4) = omega arith in rw (le-ltb s 16 b, a)
+pub hours-below : (s k : ℕ) → s + k ≤ 24 → Every InDay (hoursFrom s k)
+unfolding hoursFrom
+hours-below s zero b = tt
+hours-below s (suc k) b = (omega arith, hours-below (suc s) k (omega arith))
+
+pub warm-below : (s : ℕ) → s ≤ 20 → Every InDay (warmUp s)
+unfolding warmUp
+warm-below s b = by (ltb s 16)
+  where
+    by : (m : Bool) → Every InDay (cond m (hoursFrom (s - 5) 3) (hoursFrom (s - 4) 2))
+    by true = hours-below (s - 5) 3 (omega arith)
+    by false = hours-below (s - 4) 2 (omega arith)
+
+-- runs of hours
+
+pub run-long : (from to : ℕ) → length (run from to) ≡ to - from
+unfolding run
+run-long from to = hours-long from (to - from)
+
+pub run-below : (from to : ℕ) → from ≤ to → to ≤ 24 → Every InDay (run from to)
+unfolding run
+run-below from to h b = hours-below from (to - from) (omega arith)
+
+pub run-more : (h to : ℕ) → h < to → run h to ≡ h ∷ run (h + 1) to
+unfolding run hoursFrom
+run-more h to b = let e : to - h ≡ suc (to - (h + 1)) = omega arith in rw (e, add-one h)
+
+pub run-none : (h to : ℕ) → to ≤ h → run h to ≡ []
+unfolding run hoursFrom
+run-none h to b = let e : to - h ≡ 0 = omega arith in rw e
 
 module _ (s e : ℕ) (p : Spans s e) where
-  pub morning-hours : s < eveningStart
-      → HoursFor s e (record { at = (s - 5) ∷ (s - 4) ∷ (s - 3) ∷ s ∷ (s + 1) ∷ (s + 2) ∷ (s + 3) ∷ []; warm = 3; all = 3 + (e - s) })
-  unfolding span
+  pub morning-hours : s < eveningStart → HoursFor s e (record { warm = s - 5; pause = s - 2; start = s; end = e })
+  unfolding run warmUp
   morning-hours b =
-      let past : 3 + (e - s) - 3 ≡ e - s = omega arith in
-      let all : 3 + (e - s) - 0 ≡ suc (suc (suc (e - s))) = omega arith in
+      let three : s - 2 - (s - 5) ≡ 3 = omega arith in
       record {
-        warm-are = morning-warm s (p .late) b;
-        event-are = rw past (four s (e - s) [] (p .few));
-        needed-are = rw (all, four s (e - s) [] (p .few), ← morning-warm s (p .late) b);
-        warm-long = rw (← morning-warm s (p .late) b);
-        event-long = hours-long s (e - s) ∙ omega arith;
-        warm-few = (omega arith, omega arith);
-        all-few = (omega arith, omega (arith, p .few), omega arith);
-        in-day = each;
+        warm-are = rw (lt-ltb s 16 b, three);
+        event-are = refl;
+        inside = record { two-warm = omega arith; warm-in = omega arith; in-order = omega arith; few-event = omega arith; event-in = omega arith };
       }
-    where
-      each : (k : ℕ) → k < 7 → getD ((s - 5) ∷ (s - 4) ∷ (s - 3) ∷ s ∷ (s + 1) ∷ (s + 2) ∷ (s + 3) ∷ []) k 0 < 24
-      each zero h = omega arith
-      each (suc zero) h = omega arith
-      each (suc (suc zero)) h = omega arith
-      each (suc (suc (suc zero))) h = omega arith
-      each (suc (suc (suc (suc zero)))) h = omega arith
-      each (suc (suc (suc (suc (suc zero))))) h = omega arith
-      each (suc (suc (suc (suc (suc (suc zero)))))) h = omega arith
-      each (suc (suc (suc (suc (suc (suc (suc k))))))) h = absurd (omega arith)
 
-  pub evening-hours : eveningStart ≤ s
-      → HoursFor s e (record { at = (s - 4) ∷ (s - 3) ∷ s ∷ (s + 1) ∷ (s + 2) ∷ (s + 3) ∷ 0 ∷ []; warm = 2; all = 2 + (e - s) })
-  unfolding span
+  pub evening-hours : eveningStart ≤ s → HoursFor s e (record { warm = s - 4; pause = s - 2; start = s; end = e })
+  unfolding run warmUp
   evening-hours b =
-      let past : 2 + (e - s) - 2 ≡ e - s = omega arith in
-      let all : 2 + (e - s) - 0 ≡ suc (suc (e - s)) = omega arith in
+      let two : s - 2 - (s - 4) ≡ 2 = omega arith in
       record {
-        warm-are = evening-warm s b;
-        event-are = rw past (four s (e - s) (0 ∷ []) (p .few));
-        needed-are = rw (all, four s (e - s) (0 ∷ []) (p .few), ← evening-warm s b);
-        warm-long = rw (← evening-warm s b);
-        event-long = hours-long s (e - s) ∙ omega arith;
-        warm-few = (omega arith, omega arith);
-        all-few = (omega arith, omega (arith, p .few), omega arith);
-        in-day = each;
+        warm-are = rw (le-ltb s 16 b, two);
+        event-are = refl;
+        inside = record { two-warm = omega arith; warm-in = omega arith; in-order = omega arith; few-event = omega arith; event-in = omega arith };
       }
-    where
-      each : (k : ℕ) → k < 7 → getD ((s - 4) ∷ (s - 3) ∷ s ∷ (s + 1) ∷ (s + 2) ∷ (s + 3) ∷ 0 ∷ []) k 0 < 24
-      each zero h = omega (arith, p .some-hour, p .in-day)
-      each (suc zero) h = omega (arith, p .some-hour, p .in-day)
-      each (suc (suc zero)) h = omega (arith, p .some-hour, p .in-day)
-      each (suc (suc (suc zero))) h = omega (arith, p .some-hour, p .in-day)
-      each (suc (suc (suc (suc zero)))) h = omega (arith, p .some-hour, p .in-day)
-      each (suc (suc (suc (suc (suc zero))))) h = omega (arith, p .some-hour, p .in-day)
-      each (suc (suc (suc (suc (suc (suc zero)))))) h = omega arith
-      each (suc (suc (suc (suc (suc (suc (suc k))))))) h = absurd (omega arith)

@@ -10,7 +10,8 @@ use mathlib.Core.Path.{_≡_, refl, ap, _∙_}
 use native.Mathlib.Nat.{le-of-suc-le-suc, eq-or-lt-of-le, zero-add}
 use native.Mathlib.Omega.{arith}
 use lib.ListN.{length, getD, take, drop, replicate, length-take}
-use lib.Seq.{sets, sets-eq, length-sets}
+use lib.Seq.{sets, sets-eq}
+use Rattle.calendar.specs.declared.answers.Winter.{Winter}
 use Rattle.laws.proofs.Every.{Every, front, at, imply}
 use Rattle.energy.specs.Held.{heldIn}
 use Rattle.energy.specs.ReferenceDays.{serves, before, referenceDays}
@@ -83,31 +84,30 @@ before-met ok zero n x h t = absurd (omega arith)
 before-met ok (suc d) n x h t = met-next x d (before ok d) h (λ n l. before-met ok d n x l t) (ok d) (λ (q : x ≡ d). rw q at t) n
 
 -- the reference days
-module _ (y : ℕ) (masks : List ℕ) (day : ℕ) where
-  pub refs-serve : Every (λ (d : ℕ). (d < day) × (serves y masks day d ≡ true)) (referenceDays y masks day)
+module _ (w : Winter) (masks : List ℕ) (day : ℕ) where
+  pub refs-serve : Every (λ (d : ℕ). (d < day) × (serves w masks day d ≡ true)) (referenceDays w masks day)
   unfolding referenceDays
   refs-serve =
-      front (λ (d : ℕ). (d < day) × (serves y masks day d ≡ true)) 5 (before (serves y masks day) day) (before-pass (serves y masks day) day)
+      front (λ (d : ℕ). (d < day) × (serves w masks day d ≡ true)) 5 (before (serves w masks day) day) (before-pass (serves w masks day) day)
 
-  pub refs-fall : (i j : ℕ) → i < j → j < length (referenceDays y masks day) → getD (referenceDays y masks day) j 0 < getD (referenceDays y masks day) i 0
+  pub refs-fall : (i j : ℕ) → i < j → j < length (referenceDays w masks day) → getD (referenceDays w masks day) j 0 < getD (referenceDays w masks day) i 0
   unfolding referenceDays
-  refs-fall = falls-at (referenceDays y masks day) (falls-front 5 (before (serves y masks day) day) (before-falls (serves y masks day) day))
+  refs-fall = falls-at (referenceDays w masks day) (falls-front 5 (before (serves w masks day) day) (before-falls (serves w masks day) day))
 
-  pub refs-few : length (referenceDays y masks day) ≤ 5
+  pub refs-few : length (referenceDays w masks day) ≤ 5
   unfolding referenceDays
-  refs-few = omega (arith, length-take 5 (before (serves y masks day) day))
+  refs-few = omega (arith, length-take 5 (before (serves w masks day) day))
 
-  pub refs-all : (d : ℕ) → d < day → serves y masks day d ≡ true → (List·Memᴰ d (referenceDays y masks day) → ⊥)
-      → Every (λ (r : ℕ). d < r) (referenceDays y masks day) × (length (referenceDays y masks day) ≡ 5)
+  pub refs-all : (d : ℕ) → d < day → serves w masks day d ≡ true → (List·Memᴰ d (referenceDays w masks day) → ⊥)
+      → Every (λ (r : ℕ). d < r) (referenceDays w masks day) × (length (referenceDays w masks day) ≡ 5)
   unfolding referenceDays
   refs-all d h t out =
-      ⊎-elim (λ (m : List·Memᴰ d (referenceDays y masks day)). absurd (out m))
-      (λ (p : Every (λ (r : ℕ). d < r) (referenceDays y masks day) × (length (referenceDays y masks day) ≡ 5)). p)
-      (before-met (serves y masks day) day 5 d h t)
+      ⊎-elim (λ (m : List·Memᴰ d (referenceDays w masks day)). absurd (out m))
+      (λ (p : Every (λ (r : ℕ). d < r) (referenceDays w masks day) × (length (referenceDays w masks day) ≡ 5)). p)
+      (before-met (serves w masks day) day 5 d h t)
 
 -- what the array that holds at most five days has
 pub record HeldDays (ds : List ℕ) : Type 0 where
-  pub five-long : length (heldIn ds .days) ≡ 5
   pub counted : heldIn ds .count ≡ length ds
   pub five-are : length ds ≡ 5 → heldIn ds .days ≡ ds
 
@@ -115,7 +115,6 @@ pub held-days : (ds : List ℕ) → length ds ≤ 5 → HeldDays ds
 unfolding heldIn
 held-days ds h =
     record {
-      five-long = length-sets (replicate 5 0) 0 ds;
       counted = refl;
       five-are = λ e. split ∙ rw (e, append-nil);
     }

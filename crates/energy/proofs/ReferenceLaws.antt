@@ -1,5 +1,5 @@
--- What `serves` gives for each way out of its code, and how the search backwards, which keeps what it found in an array, comes to the
--- reference days: one law for each turn and for the end.
+-- When a day serves that carries no event, and how the search backwards, which keeps what it found in an array, comes to the reference
+-- days: one law for each turn and for the end.
 -- Assumes nothing.
 use Prim.Native.Nat.{ℕ, zero, suc, _+_, _-_, _≤_, _<_}
 use mathlib.Core.Bool.{Bool, true, false, not, cond, _&&_, Bool·beq}
@@ -13,6 +13,7 @@ use lib.Seq.{sets, take-nil}
 use borrow.Author.Tests.{eq-eqb, ne-eqb, eqb-true, eqb-false, ltb-true, ltb-false, lt-ltb}
 use Rattle.calendar.specs.Excluded.{excluded}
 use Rattle.calendar.specs.Weekdays.{weekend}
+use Rattle.calendar.specs.declared.answers.Winter.{Winter}
 use Rattle.laws.proofs.Guards.{both}
 use Rattle.energy.specs.Held.{heldIn, pastEvents, freeServes}
 use Rattle.energy.specs.ReferenceDays.{serves, before, referenceDays}
@@ -22,27 +23,17 @@ and-false : (b : Bool) → (b && false) ≡ false
 and-false true = refl
 and-false false = refl
 
--- the ways out of `free_day_serves`
-module _ (y day d : ℕ) where
-  pub other-kind : Bool·beq (weekend y d) (weekend y day) ≡ false → freeServes y day d ≡ false
-  unfolding freeServes
-  other-kind h = rw h
-
-  pub same-kind : Bool·beq (weekend y d) (weekend y day) ≡ true → freeServes y day d ≡ not (excluded y d)
-  unfolding freeServes
-  same-kind h = rw h
-
 -- a day serves if it carries no event and serves then
-module _ (y : ℕ) (masks : List ℕ) (day d : ℕ) where
-  has-event : (getD masks d 0 ≡ 0 → ⊥) → serves y masks day d ≡ false
+module _ (w : Winter) (masks : List ℕ) (day d : ℕ) where
+  has-event : (getD masks d 0 ≡ 0 → ⊥) → serves w masks day d ≡ false
   unfolding serves
   has-event h = rw (ne-eqb (getD masks d 0) 0 h, and-false)
 
-  pub free-day : getD masks d 0 ≡ 0 → freeServes y day d ≡ serves y masks day d
+  pub free-day : getD masks d 0 ≡ 0 → freeServes w (weekend w day) d ≡ serves w masks day d
   unfolding serves freeServes
-  free-day k = rw (eq-eqb (getD masks d 0) 0 k) (by (Bool·beq (weekend y d) (weekend y day)))
+  free-day k = rw (eq-eqb (getD masks d 0) 0 k) (by (Bool·beq (weekend w d) (weekend w day)))
     where
-      by : (b : Bool) → (b && not (excluded y d)) ≡ (b && true && not (excluded y d))
+      by : (b : Bool) → (b && not (excluded w d)) ≡ (b && true && not (excluded w d))
       by true = refl
       by false = refl
 
@@ -65,9 +56,9 @@ pub before-no : (ok : ℕ → Bool) (d : ℕ) → ok d ≡ false → before ok (
 unfolding before
 before-no ok d t = rw t
 
-pub search-start : (y : ℕ) (masks : List ℕ) (day : ℕ) → Search (serves y masks day) (referenceDays y masks day) (replicate 5 0) 0 day
+pub search-start : (w : Winter) (masks : List ℕ) (day : ℕ) → Search (serves w masks day) (referenceDays w masks day) (replicate 5 0) 0 day
 unfolding referenceDays
-search-start y masks day = record { room = omega arith; size = refl; stored = refl; counted = omega arith }
+search-start w masks day = record { room = omega arith; size = refl; stored = refl; counted = omega arith }
 
 module _ (ok : ℕ → Bool) (want days : List ℕ) (count : ℕ) where
   yes-next : (d : ℕ) → ok d ≡ true → count < 5 → Search ok want days count (suc d) → Search ok want (set days count d) (suc count) d
@@ -92,7 +83,8 @@ module _ (ok : ℕ → Bool) (want days : List ℕ) (count : ℕ) where
       }
 
   -- the day before d is taken, or is passed over
-  pub search-took : (d : ℕ) → (0 < d) × (count < 5) → ok (d - 1) ≡ true → Search ok want days count d → Search ok want (set days count (d - 1)) (count + 1) (d - 1)
+  pub search-took : (d : ℕ) → (0 < d) × (count < 5) → ok (d - 1) ≡ true → Search ok want days count d
+      → Search ok want (set days count (d - 1)) (count + 1) (d - 1)
   search-took zero h t s = absurd (omega arith)
   search-took (suc d) h t s = let e : suc d - 1 ≡ d = omega arith in rw (e, add-one) (yes-next d (rw e at t) (h .1) s)
 
@@ -109,7 +101,8 @@ module _ (ok : ℕ → Bool) (want days : List ℕ) (count : ℕ) where
       rw z
 
   -- no days left, or no room: all is stored
-  pub search-ends : (d : ℕ) → (ltb 0 d && ltb count 5) ≡ false → Search ok want days count d → _≡_ {A = Refs} (record { days = days; count = count }) (heldIn want)
+  pub search-ends : (d : ℕ) → (ltb 0 d && ltb count 5) ≡ false → Search ok want days count d
+      → _≡_ {A = Refs} (record { days = days; count = count }) (heldIn want)
   unfolding heldIn
   search-ends d e s = rw (all-stored, all-counted)
     where
@@ -156,18 +149,18 @@ past-le masks (suc d) = by (eqb (getD masks d 0) 0) (past-le masks d)
     by true h = omega arith
     by false h = omega arith
 
-module _ (y : ℕ) (masks : List ℕ) (day : ℕ) where
-  before-past : (d : ℕ) → before (serves y masks day) d ≡ before (serves y masks day) (pastEvents masks d)
+module _ (w : Winter) (masks : List ℕ) (day : ℕ) where
+  before-past : (d : ℕ) → before (serves w masks day) d ≡ before (serves w masks day) (pastEvents masks d)
   unfolding pastEvents
   before-past zero = refl
   before-past (suc d) = by (eqb (getD masks d 0) 0) refl (before-past d)
     where
-      by : (b : Bool) → eqb (getD masks d 0) 0 ≡ b → before (serves y masks day) d ≡ before (serves y masks day) (pastEvents masks d)
-          → before (serves y masks day) (suc d) ≡ before (serves y masks day) (cond b (suc d) (pastEvents masks d))
+      by : (b : Bool) → eqb (getD masks d 0) 0 ≡ b → before (serves w masks day) d ≡ before (serves w masks day) (pastEvents masks d)
+          → before (serves w masks day) (suc d) ≡ before (serves w masks day) (cond b (suc d) (pastEvents masks d))
       by true q rest = refl
-      by false q rest = before-no (serves y masks day) d (has-event y masks day d (eqb-false (getD masks d 0) 0 q)) ∙ rest
+      by false q rest = before-no (serves w masks day) d (has-event w masks day d (eqb-false (getD masks d 0) 0 q)) ∙ rest
 
-  pub search-past : (want days : List ℕ) (count d : ℕ) → Search (serves y masks day) want days count d
-      → Search (serves y masks day) want days count (pastEvents masks d)
+  pub search-past : (want days : List ℕ) (count d : ℕ) → Search (serves w masks day) want days count d
+      → Search (serves w masks day) want days count (pastEvents masks d)
   search-past want days count d s =
       record { room = s .room; size = s .size; stored = rw (before-past d) at (s .stored); counted = rw (before-past d) at (s .counted) }

@@ -55,5 +55,5 @@ module _ (v : List ℕ) {sum low high : ℕ}
   trimmed-is n = rw (s, l, h, five v n)
 
   -- five numbers of which the largest is below 2^32
-  pub trimmed-small : high < 2 ^ 32 → sum - low - high < 2 ^ 36
+  pub trimmed-small : high < 2 ^ 32 → sum - low - high < 2 ^ 35
   trimmed-small b = omega (arith, sum-le (2 ^ 32) (elements v) (omega arith))

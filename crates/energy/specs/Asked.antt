@@ -4,6 +4,7 @@ use Prim.Native.Nat.{ℕ, zero, suc, _+_, _-_, _*_}
 use mathlib.Core.Bool.{cond}
 use mathlib.Core.List.{List, [], _∷_, _++_, map}
 use lib.Dec.{ltb}
+use Rattle.calendar.specs.declared.answers.Winter.{Winter}
 use Rattle.notices.specs.Profiles.{eveningStart}
 use Rattle.notices.specs.declared.notices.Notice.{Notice}
 use Rattle.energy.specs.ReferenceDays.{referenceDays}
@@ -23,9 +24,9 @@ hoursFrom h (suc n) = h ∷ hoursFrom (suc h) n
 unfoldable pub warmUp : ℕ → List ℕ
 warmUp s = cond (ltb s eveningStart) (hoursFrom (s - 5) 3) (hoursFrom (s - 4) 2)
 
-unfoldable pub askedBy : ℕ → List ℕ → Notice → Asked
-askedBy y masks n =
-    record { day = n .day; warm = warmUp (n .start); event = hoursFrom (n .start) (n .end - n .start); refs = referenceDays y masks (n .day) }
+unfoldable pub askedBy : Winter → List ℕ → Notice → Asked
+askedBy w masks n =
+    record { day = n .day; warm = warmUp (n .start); event = hoursFrom (n .start) (n .end - n .start); refs = referenceDays w masks (n .day) }
 
 -- the places of some hours of a day: "24 times day plus hour"
 abbrev pub placesOf : ℕ → List ℕ → List ℕ

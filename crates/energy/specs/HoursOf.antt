@@ -1,12 +1,24 @@
--- What the code's hours of an event are: held in one array, they are document 01's warm-up and event hours.
+-- What the code's hours of an event are: two runs of hours, document 01's warm-up and event hours.
 -- Assumes nothing.
 use Prim.Native.Nat.{ℕ, _+_, _-_, _≤_, _<_}
-use mathlib.Core.List.{_++_}
+use mathlib.Core.List.{List}
 use mathlib.Core.Path.{_≡_}
-use lib.ListN.{length, getD}
-use Rattle.energy.specs.Asked.{hoursFrom, warmUp}
-use Rattle.energy.specs.Held.{heldHours}
+use Rattle.energy.specs.Asked.{Asked, hoursFrom, warmUp}
 use Rattle.energy.specs.declared.hours.Hours.{Hours}
+
+-- the hours from one up to another
+unfoldable pub run : ℕ → ℕ → List ℕ
+run from to = hoursFrom from (to - from)
+
+abbrev pub warmRun : Hours → List ℕ
+warmRun hours = run (hours .warm) (hours .pause)
+
+abbrev pub eventRun : Hours → List ℕ
+eventRun hours = run (hours .start) (hours .end)
+
+-- what is asked of a book by an event day, hours and reference days as the code holds them
+abbrev pub askedIn : ℕ → Hours → List ℕ → Asked
+askedIn day hours refs = record { day = day; warm = warmRun hours; event = eventRun hours; refs = refs }
 
 -- hours that lie inside a band: late enough for the warm-up before them, at most four, and inside the day
 pub record Spans (start end : ℕ) : Type 0 where
@@ -15,12 +27,15 @@ pub record Spans (start end : ℕ) : Type 0 where
   pub few : end - start ≤ 4
   pub in-day : end ≤ 20
 
+-- what the private functions ask of hours: they lie in the day, two warm-up hours at least and four event hours at most
+pub record HoursIn (hours : Hours) : Type 0 where
+  pub two-warm : hours .warm + 2 ≤ hours .pause
+  pub warm-in : hours .pause ≤ 24
+  pub in-order : hours .start ≤ hours .end
+  pub few-event : hours .end ≤ hours .start + 4
+  pub event-in : hours .end ≤ 24
+
 pub record HoursFor (start end : ℕ) (r : Hours) : Type 0 where
-  pub warm-are : heldHours r 0 (r .warm) ≡ warmUp start
-  pub event-are : heldHours r (r .warm) (r .all) ≡ hoursFrom start (end - start)
-  pub needed-are : heldHours r 0 (r .all) ≡ warmUp start ++ hoursFrom start (end - start)
-  pub warm-long : length (warmUp start) ≡ r .warm
-  pub event-long : length (hoursFrom start (end - start)) ≡ r .all - r .warm
-  pub warm-few : (2 ≤ r .warm) × (r .warm ≤ 3)
-  pub all-few : (r .warm ≤ r .all) × (r .all ≤ 7) × (r .all - r .warm ≡ end - start)
-  pub in-day : (k : ℕ) → k < 7 → getD (r .at) k 0 < 24
+  pub warm-are : warmRun r ≡ warmUp start
+  pub event-are : eventRun r ≡ hoursFrom start (end - start)
+  pub inside : HoursIn r

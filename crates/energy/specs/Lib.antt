@@ -6,5 +6,5 @@ pub mod Spared
 pub mod Energy
 pub mod Held
 pub mod HoursOf
-pub mod EnergyIn
 pub mod Line
+pub mod Parts

@@ -5,7 +5,8 @@ use mathlib.Core.Bool.{not}
 use mathlib.Core.List.{List, [], _∷_}
 use lib.Dec.{ltb, eqb}
 use lib.ListN.{length}
-use Rattle.calendar.specs.Winters.{noWinter, days, inPeriod}
+use Rattle.calendar.specs.Days.{wrongWinter, inPeriod}
+use Rattle.calendar.specs.declared.answers.Winter.{Winter}
 use Rattle.laws.specs.Answer.{Answer, given, refusal, refuse}
 use Rattle.notices.specs.Hours.{badHours}
 use Rattle.notices.specs.Profiles.{figuresOf}
@@ -48,10 +49,10 @@ unfoldable pub lineOf : List ℕ → Asked → Answer
 lineOf book q = refuse (ltb (length (q .refs)) 5) (unsettled 20 0) (byFault (firstFault book (needed q)) (energyOf book q))
 
 -- the call on one event: a wrong winter, book, day or hours first
-unfoldable pub eventAnswer : ℕ → List ℕ → List ℕ → Notice → Answer
-eventAnswer y book masks n =
-    refuse (noWinter y) (refusal 1)
-    (refuse (not (eqb (length book) (24 * days y))) (refusal 2)
-    (refuse (not (inPeriod y (n .day))) (refusal 10)
+unfoldable pub eventAnswer : Winter → List ℕ → List ℕ → Notice → Answer
+eventAnswer w book masks n =
+    refuse (wrongWinter w) (refusal 1)
+    (refuse (not (eqb (length book) (24 * w .days))) (refusal 2)
+    (refuse (not (inPeriod w (n .day))) (refusal 10)
     (refuse (badHours (figuresOf Credit) n) (refusal 13)
-    (lineOf book (askedBy y masks n)))))
+    (lineOf book (askedBy w masks n)))))

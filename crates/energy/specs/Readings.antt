@@ -1,6 +1,6 @@
 -- Readings, and the first fault among those that are needed.
 -- Assumes nothing.
-use Prim.Native.Nat.{ℕ, _+_, _*_, _≤_, _<_}
+use Prim.Native.Nat.{ℕ}
 use mathlib.Core.Bool.{Bool, true, false, cond}
 use mathlib.Core.List.{List, [], _∷_}
 use lib.Dec.{ltb, eqb}
@@ -37,8 +37,3 @@ readingAt book p = getD book p 0
 unfoldable pub firstFault : List ℕ → List ℕ → Fault
 firstFault book [] = Clean
 firstFault book (p ∷ places) = orFault (faultOf (readingAt book p) p) (firstFault book places)
-
--- what the private functions ask of a day: its 24 readings lie in a book of n numbers
-pub record InBook (n d : ℕ) : Type 0 where
-  pub readings : 24 * d + 24 ≤ n
-  pub day : d < 152

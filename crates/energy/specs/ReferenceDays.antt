@@ -7,10 +7,11 @@ use lib.Dec.{eqb}
 use lib.ListN.{getD, take}
 use Rattle.calendar.specs.Excluded.{excluded}
 use Rattle.calendar.specs.Weekdays.{weekend}
+use Rattle.calendar.specs.declared.answers.Winter.{Winter}
 
 -- a day "of its kind (weekday or weekend)", the event day's, that carries "no event at any hour" and is "not excluded"
-unfoldable pub serves : ℕ → List ℕ → ℕ → ℕ → Bool
-serves y masks day d = Bool·beq (weekend y d) (weekend y day) && eqb (getD masks d 0) 0 && not (excluded y d)
+unfoldable pub serves : Winter → List ℕ → ℕ → ℕ → Bool
+serves w masks day d = Bool·beq (weekend w d) (weekend w day) && eqb (getD masks d 0) 0 && not (excluded w d)
 
 -- a day before other days, where it is wanted
 abbrev pub withDay : Bool → ℕ → List ℕ → List ℕ
@@ -22,5 +23,5 @@ before ok zero = []
 before ok (suc d) = withDay (ok d) d (before ok d)
 
 -- "the five nearest days before the event day"; fewer where there are not five
-unfoldable pub referenceDays : ℕ → List ℕ → ℕ → List ℕ
-referenceDays y masks day = take 5 (before (serves y masks day) day)
+unfoldable pub referenceDays : Winter → List ℕ → ℕ → List ℕ
+referenceDays w masks day = take 5 (before (serves w masks day) day)

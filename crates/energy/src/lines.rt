@@ -1,12 +1,17 @@
-// The line of one event.
+// The line of one event, by the parts of its six days.
 ghost use mathlib.Core.Path.{_≡_};
-ghost use mathlib.Core.Bool.{false};
+ghost use mathlib.Core.Bool.{false, not};
+ghost use mathlib.Core.List.{[], _∷_};
+ghost use Prim.Native.Nat.{_*_};
+ghost use lib.Dec.{eqb};
 ghost use lib.ListN.{length};
 ghost use Rattle.calendar.specs.Book.{noPart};
+ghost use Rattle.calendar.specs.Weekdays.{weekend};
 ghost use Rattle.energy.specs.Asked.{askedBy};
-ghost use Rattle.energy.specs.EnergyIn.{heldEnergy, Ready};
-ghost use Rattle.energy.specs.HoursOf.{Spans};
+ghost use Rattle.energy.specs.Held.{OnDay};
+ghost use Rattle.energy.specs.HoursOf.{Spans, HoursIn, askedIn};
 ghost use Rattle.energy.specs.Line.{linePaper, byFault, lineOf, eventAnswer};
+ghost use Rattle.energy.specs.Parts.{Six, Days, SixDays, partsEnergy, partsLine};
 use crate::hours::Hours;
 use crate::hours::hours_of;
 use crate::readings::Fault;
@@ -15,7 +20,9 @@ use crate::reference_days::nearest;
 use crate::spared::spared;
 use crate::sums::drawn_sum;
 use crate::sums::trimmed_sum;
-use calendar::Days;
+use calendar::DayKind;
+use calendar::Kind;
+use calendar::Winter;
 use notices::Notice;
 use notices::Profile;
 
@@ -32,17 +39,26 @@ pub enum Line {
 }
 
 // The spared energy, from R, B, A and C.
-fn energy(book: &[u32], day: u32, hours: Hours, refs: [u32; 5]) -> u64
-    requires { ⌜ Ready (length (now book)) day hours refs ⌝ }
-    ensures { λ r. ⌜ r ≡ heldEnergy (now (book .entry)) day hours refs ⌝ }
+fn energy(
+    hours: Hours,
+    event: &[u32],
+    r0: &[u32],
+    r1: &[u32],
+    r2: &[u32],
+    r3: &[u32],
+    r4: &[u32],
+) -> u64
+    requires { ⌜ Six (now event) (now r0) (now r1) (now r2) (now r3) (now r4) × HoursIn hours ⌝ }
+    ensures { λ r. ⌜ r ≡ partsEnergy hours (now (event .entry))
+        (now (r0 .entry) ∷ now (r1 .entry) ∷ now (r2 .entry) ∷ now (r3 .entry) ∷ now (r4 .entry) ∷ []) ⌝ }
 {
-    let warm = hours.warm;
-    let all = hours.all;
-    let r = trimmed_sum(book, refs, hours, warm, all);
-    let b = trimmed_sum(book, refs, hours, 0, warm);
-    let a = drawn_sum(book, day, hours, 0, warm);
-    let c = drawn_sum(book, day, hours, warm, all);
-    spared((all - warm) as u64, warm as u64, r, b, a, c)
+    let r = trimmed_sum(r0, r1, r2, r3, r4, hours.start, hours.end);
+    let b = trimmed_sum(r0, r1, r2, r3, r4, hours.warm, hours.pause);
+    let a = drawn_sum(event, hours.warm, hours.pause);
+    let c = drawn_sum(event, hours.start, hours.end);
+    let h = (hours.end - hours.start) as u64;
+    let w = (hours.pause - hours.warm) as u64;
+    spared(h, w, r, b, a, c)
 }
 
 // The line of a fault, or of an energy where there is none.
@@ -56,39 +72,92 @@ fn line_of(fault: Fault, energy: u64) -> Line
     }
 }
 
-// The line of an event whose day is in the book and whose hours lie in a band: 20 comes before 21 and 22.
-fn line_in(winter: u32, book: &[u32], masks: &[u32; 152], n: Notice) -> Line
-    requires { ⌜ (noPart winter (length (now book)) (n .day) ≡ false) × Spans (n .start) (n .end) ⌝ }
-    ensures { λ r. ⌜ linePaper r ≡ lineOf (now (book .entry)) (askedBy winter (now (masks .entry)) n) ⌝ }
+// The line of an event by the parts of its day and of its five reference days.
+fn line_of_parts(
+    day: u32,
+    refs: [u32; 5],
+    hours: Hours,
+    event: &[u32],
+    r0: &[u32],
+    r1: &[u32],
+    r2: &[u32],
+    r3: &[u32],
+    r4: &[u32],
+) -> Line
+    requires { ⌜ Six (now event) (now r0) (now r1) (now r2) (now r3) (now r4) × Days day refs × HoursIn hours ⌝ }
+    ensures { λ r. ⌜ linePaper r ≡ partsLine day refs hours (now (event .entry))
+        (now (r0 .entry) ∷ now (r1 .entry) ∷ now (r2 .entry) ∷ now (r3 .entry) ∷ now (r4 .entry) ∷ []) ⌝ }
 {
-    let found = nearest(winter, masks, n.day);
+    let fault = first_fault(day, refs, hours, event, r0, r1, r2, r3, r4);
+    line_of(fault, energy(hours, event, r0, r1, r2, r3, r4))
+}
+
+// The line of an event whose reference days are known: each of the six days is fetched once.
+fn line_of_days(w: Winter, book: &[u32], day: u32, refs: [u32; 5], hours: Hours) -> Line
+    requires { ⌜ SixDays w (length (now book)) day refs × HoursIn hours ⌝ }
+    ensures { λ r. ⌜ linePaper r ≡ lineOf (now (book .entry)) (askedIn day hours refs) ⌝ }
+{
+    let event = calendar::day_readings(w, book, day);
+    let r0 = calendar::day_readings(w, book, refs[0]);
+    let r1 = calendar::day_readings(w, book, refs[1]);
+    let r2 = calendar::day_readings(w, book, refs[2]);
+    let r3 = calendar::day_readings(w, book, refs[3]);
+    let r4 = calendar::day_readings(w, book, refs[4]);
+    line_of_parts(day, refs, hours, event, r0, r1, r2, r3, r4)
+}
+
+// The line of an event whose day is in the book and whose hours lie in a band: 20 comes before 21 and 22.
+fn line_in(w: Winter, kind: Kind, book: &[u32], masks: &[u32; 152], n: Notice) -> Line
+    requires { ⌜ (noPart w (length (now book)) (n .day) ≡ false) × (kind .weekend ≡ weekend w (n .day)) × Spans (n .start) (n .end) ⌝ }
+    ensures { λ r. ⌜ linePaper r ≡ lineOf (now (book .entry)) (askedBy w (now (masks .entry)) n) ⌝ }
+{
+    let found = nearest(w, kind, masks, n.day);
     let count = found.count;
     let refs = found.days;
     if count < 5 {
         return Line::FewDays;
     }
     let hours = hours_of(n.start, n.end);
-    let fault = first_fault(book, n.day, hours, refs);
-    line_of(fault, energy(book, n.day, hours, refs))
+    line_of_days(w, book, n.day, refs, hours)
 }
 
-// Settles one event of a winter, by the book and the masks of all events: code, place and energy. A wrong winter, book length, day or
-// hours are refused; any masks are taken as they are.
-pub fn settle_event(winter: u32, book: &[u32], masks: &[u32; 152], n: Notice) -> Line
-    ensures { λ r. ⌜ linePaper r ≡ eventAnswer winter (now (book .entry)) (now (masks .entry)) n ⌝ }
+// Whether a book of that length is not this winter's.
+fn wrong_book(w: Winter, length: usize) -> bool
+    ensures { λ r. ⌜ r ≡ not (eqb length (24 * w .days)) ⌝ }
 {
-    let days = calendar::winter_days(winter);
-    let Days::Are(count) = days else {
-        return Line::NoWinter;
-    };
-    if book.len() != 24 * (count as usize) {
+    length != 24 * (w.days as usize)
+}
+
+// Settles an event whose day is a book day of that kind.
+fn settle_on(w: Winter, kind: Kind, book: &[u32], masks: &[u32; 152], n: Notice) -> Line
+    requires { ⌜ OnDay w (n .day) kind ⌝ }
+    ensures { λ r. ⌜ linePaper r ≡ eventAnswer w (now (book .entry)) (now (masks .entry)) n ⌝ }
+{
+    if wrong_book(w, book.len()) {
         return Line::BadBook;
     }
-    if !calendar::in_period(winter, n.day) {
+    if !kind.period {
         return Line::OutsidePeriod;
     }
     if notices::bad_hours(Profile::Credit.figures(), n) {
         return Line::BadHours;
     }
-    line_in(winter, book, masks, n)
+    line_in(w, kind, book, masks, n)
+}
+
+// Settles one event of a winter, by the book and the masks of all events: code, place and energy. A wrong winter, book length, day or
+// hours are refused; any masks are taken as they are.
+pub fn settle_event(w: Winter, book: &[u32], masks: &[u32; 152], n: Notice) -> Line
+    ensures { λ r. ⌜ linePaper r ≡ eventAnswer w (now (book .entry)) (now (masks .entry)) n ⌝ }
+{
+    match calendar::kind_of(w, n.day) {
+        DayKind::Is(kind) => settle_on(w, kind, book, masks, n),
+        DayKind::NoWinter => Line::NoWinter,
+        DayKind::NoDay => {
+            if wrong_book(w, book.len()) {
+                return Line::BadBook;
+            }
+            Line::OutsidePeriod
+        }
+    }
 }

@@ -1,8 +1,12 @@
 // The reference days of an event.
 ghost use mathlib.Core.Path.{_≡_};
 ghost use Prim.Native.Nat.{_<_};
+ghost use Rattle.calendar.specs.Weekdays.{weekend};
 ghost use Rattle.energy.specs.ReferenceDays.{referenceDays};
-ghost use Rattle.energy.specs.Held.{heldIn, pastEvents, freeServes};
+ghost use Rattle.energy.specs.Held.{heldIn, pastEvents, freeServes, BookDay};
+use calendar::DayKind;
+use calendar::Kind;
+use calendar::Winter;
 
 // Reference days, nearest first: the first `count` of `days`.
 pub struct Refs {
@@ -11,13 +15,15 @@ pub struct Refs {
 }
 
 // Whether a day that carries no event serves as reference: of the event day's kind, and not excluded.
-fn free_day_serves(winter: u32, day: u32, d: u32) -> bool
-    ensures { λ r. ⌜ r ≡ freeServes winter day d ⌝ }
+fn free_day_serves(w: Winter, event: Kind, d: u32) -> bool
+    requires { ⌜ BookDay w d ⌝ }
+    ensures { λ r. ⌜ r ≡ freeServes w (event .weekend) d ⌝ }
 {
-    if calendar::is_weekend(winter, d) != calendar::is_weekend(winter, day) {
-        return false;
+    match calendar::kind_of(w, d) {
+        DayKind::Is(kind) => (kind.weekend == event.weekend) & !kind.excluded,
+        DayKind::NoWinter => false,
+        DayKind::NoDay => false,
     }
-    !calendar::is_excluded(winter, d)
 }
 
 // Past the days right before a day that carry an event. They serve no event, and before a late one there are many.
@@ -36,16 +42,16 @@ fn past_events(masks: &[u32; 152], day: u32) -> u32
 }
 
 // The five nearest days before the event day that serve, or as many as there are. It stops at the fifth.
-pub(crate) fn nearest(winter: u32, masks: &[u32; 152], day: u32) -> Refs
-    requires { ⌜ day < 152 ⌝ }
-    ensures { λ r. ⌜ r ≡ heldIn (referenceDays winter (now (masks .entry)) day) ⌝ }
+pub(crate) fn nearest(w: Winter, event: Kind, masks: &[u32; 152], day: u32) -> Refs
+    requires { ⌜ BookDay w day × (event .weekend ≡ weekend w day) ⌝ }
+    ensures { λ r. ⌜ r ≡ heldIn (referenceDays w (now (masks .entry)) day) ⌝ }
 {
     let mut days = [0u32; 5];
     let mut count: usize = 0;
     let mut d = past_events(masks, day);
     while (0 < d) & (count < 5) {
         d -= 1;
-        if free_day_serves(winter, day, d) {
+        if free_day_serves(w, event, d) {
             days[count] = d;
             count += 1;
         }

@@ -1,4 +1,4 @@
--- Laws of one day's hours: one for each way out of the test of an hour and of the choice of the band, and the bits of the bands.
+-- Laws of one day's hours: one for each way out of the choice of the band, and the bits of the bands.
 -- Assumes nothing.
 use Prim.Native.Nat.{ℕ, _/_, _^_, _≤_, _<_}
 use mathlib.Core.Bool.{false}
@@ -11,16 +11,8 @@ use borrow.Author.Tests.{le-ltb, lt-ltb}
 use Rattle.notices.specs.Profiles.{morningStart, eveningStart, eveningEnd}
 use Rattle.notices.specs.declared.notices.Notice.{Notice}
 use Rattle.schedule.proofs.Standing.{InBand}
-use Rattle.event_hours.specs.Hours.{bitAt, hoursMask, hasHour, bandMask}
+use Rattle.event_hours.specs.Hours.{bitAt, hoursMask, bandMask}
 use Rattle.event_hours.proofs.HoursMask.{hours-bit}
-
-pub hour-past : (mask h : ℕ) → 24 ≤ h → false ≡ hasHour mask h
-unfolding hasHour
-hour-past mask h p = rw (le-ltb h 24 p)
-
-pub hour-in : (mask h : ℕ) → h < 24 → eqb (bitAnd (mask / 2 ^ h) 1) 1 ≡ hasHour mask h
-unfolding hasHour
-hour-in mask h p = rw (lt-ltb h 24 p, and-mask (mask / 2 ^ h) 1)
 
 pub morning-band : (s : ℕ) → s < eveningStart → bandMask s ≡ hoursMask morningStart eveningStart
 unfolding bandMask

@@ -1,15 +1,17 @@
 -- An event is read back from its day's mask: cut to the event's band, the mask is that of the event's hours, so that its count of ones is
 -- the event's length and its count of trailing zeros the event's start. Of an accepted list at most one event is on a day and band.
 -- Assumes nothing.
-use Prim.Native.Nat.{ℕ, _-_, _<_}
+use Prim.Native.Nat.{ℕ, _+_, _-_, _<_}
 use mathlib.Core.List.{List}
 use mathlib.Core.Logic.{⊎-elim}
 use mathlib.Core.Path.{_≡_, refl, _∙_, ap}
 use native.Mathlib.Omega.{arith}
 use lib.Count.{ones, trailingZeros}
+use borrow.Author.Tests.{eq-eqb, le-ltb, lt-leb}
 use Rattle.notices.specs.Notices.{countOf, noticeAt}
 use Rattle.schedule.proofs.Standing.{Standing}
-use Rattle.event_hours.specs.Days.{hoursIn, dayMask, eventHours}
+use Rattle.event_hours.specs.Days.{hoursIn, masksOf, dayMask, eventHours}
+use Rattle.event_hours.specs.Events.{maskOn, isRun, eventOf, eventOn}
 use Rattle.event_hours.specs.Hours.{bitAt, hoursMask, bandMask, ownHours}
 use Rattle.event_hours.proofs.Bits.{Within, and-both, same-bits}
 use Rattle.event_hours.proofs.HourLaws.{band-before, band-from, in-own-band}
@@ -48,15 +50,24 @@ module _ {w : ℕ} {l : List ℕ} (st : Standing w l) (k : ℕ) (b : k < countOf
       and-both (dayMask l (noticeAt l k .day)) (bandMask (noticeAt l k .start)) h .1
       (which-bits st (noticeAt l k .day) h .1 v, in-own-band (noticeAt l k) h (st .each k b .in-band) (q .0) (q .1))
 
-  pub own-hours-back : eventHours l k ≡ hoursMask (noticeAt l k .start) (noticeAt l k .end)
+  own-hours-back : eventHours l k ≡ hoursMask (noticeAt l k .start) (noticeAt l k .end)
   own-hours-back = same-bits (eventHours l k) (hoursIn (noticeAt l k)) cut-is-event event-is-cut
 
-  -- "the length of an event is its count of ones"
-  pub length-back : ones (eventHours l k) ≡ noticeAt l k .end - noticeAt l k .start
+  -- its length
+  length-back : ones (eventHours l k) ≡ noticeAt l k .end - noticeAt l k .start
   length-back = ap ones own-hours-back ∙ hours-ones _ _
 
-  -- "and its start the count of trailing zeros"
-  pub start-back : trailingZeros 32 (eventHours l k) ≡ noticeAt l k .start
+  -- its start
+  start-back : trailingZeros 32 (eventHours l k) ≡ noticeAt l k .start
   start-back =
       let m = standing-marks st k b in
       ap (trailingZeros 32) own-hours-back ∙ hours-zeros 32 _ _ (m .some-hour) (omega arith)
+
+  -- and so the event that the masks hold there is the notice
+  pub event-back : eventOn (masksOf l) (noticeAt l k) ≡ noticeAt l k
+  unfolding eventOn eventOf isRun maskOn
+  event-back =
+      let n = noticeAt l k in
+      let m = standing-marks st k b in
+      let e : n .start + (n .end - n .start) ≡ n .end = omega arith in
+      rw (lt-leb 152 (n .day) (m .in-book), start-back, length-back, e, le-ltb 24 (n .end) (omega arith), eq-eqb (eventHours l k) (hoursMask (n .start) (n .end)) own-hours-back)

@@ -11,13 +11,13 @@ use native.Mathlib.Omega.{arith}
 use lib.Dec.{ltb, eqb}
 use lib.ListN.{length, getD}
 use borrow.Author.Tests.{eqb-true, eq-eqb, lt-ltb}
-use Rattle.calendar.proofs.Bounds.{days-range}
+use Rattle.dates.proofs.Promise.{days-range}
 use Rattle.laws.proofs.Guards.{both}
 use Rattle.notices.specs.Notices.{countOf, noticeAt}
 use Rattle.notices.specs.declared.notices.Notice.{Notice}
 use Rattle.schedule.proofs.Standing.{Standing}
 use Rattle.event_hours.specs.Days.{hoursIn, withHours, masksTo, masksOf, dayMask}
-use Rattle.event_hours.specs.Hours.{bitAt, hasHour}
+use Rattle.event_hours.specs.Hours.{bitAt}
 use Rattle.event_hours.proofs.AllDays.{Kept, Added, added, kept-or-added, length-to, zero-at}
 use Rattle.event_hours.proofs.Bits.{bit-zero, or-either, or-left, or-right}
 use Rattle.event_hours.proofs.DayLaws.{Marks}
@@ -88,13 +88,3 @@ module _ {w : ℕ} {l : List ℕ} (st : Standing w l) (d h : ℕ) where
   pub which-bits : (bitAt (dayMask l d) h ≡ 1) ↔ Covers l (countOf l) d h
   unfolding masksOf
   which-bits = (covered l d h (countOf l), marked l d h (countOf l) (standing-marks st))
-
-  -- the same of the test that `has_hour` computes
-  pub which-hours : (hasHour (dayMask l d) h ≡ true) ↔ Covers l (countOf l) d h
-  unfolding hasHour
-  which-hours = (
-    λ e. which-bits .0 (eqb-true _ _ (both (ltb h 24) (eqb (bitAt (dayMask l d) h) 1) e .1)),
-    λ (v : Covers l (countOf l) d h).
-        let m = standing-marks st (v .which) (v .among) in
-        rw (lt-ltb h 24 (omega (arith, v .covers .to, m .in-day)), eq-eqb (bitAt (dayMask l d) h) 1 (which-bits .1 v)),
-  )

@@ -1,2 +1,3 @@
 pub mod Hours
 pub mod Days
+pub mod Events

@@ -1,8 +1,7 @@
-// The event hours of one day: the bits of a mask, by shifts, `&` and counts of bits.
+// The event hours of one day: the bits of a mask, by shifts and `&`.
 ghost use mathlib.Core.Path.{_≡_};
 ghost use Prim.Native.Nat.{_≤_};
-ghost use lib.Count.{ones, trailingZeros};
-ghost use Rattle.event_hours.specs.Hours.{hoursMask, hasHour, bandMask, ownHours};
+ghost use Rattle.event_hours.specs.Hours.{hoursMask, bandMask, ownHours};
 use notices::Profile;
 
 // The bits of the hours from start to end - 1. A shift past the day's 24 bits could lose its bit, so the callers rule it out.
@@ -11,16 +10,6 @@ pub(crate) fn hours_mask(start: u32, end: u32) -> u32
     ensures { λ r. ⌜ r ≡ hoursMask start end ⌝ }
 {
     (1u32 << end) - (1u32 << start)
-}
-
-// Whether an hour is an event hour of a day's mask, bit h for hour h; no day has an hour above 23.
-pub fn has_hour(mask: u32, hour: u32) -> bool
-    ensures { λ r. ⌜ r ≡ hasHour mask hour ⌝ }
-{
-    if 23 < hour {
-        return false;
-    }
-    (mask >> hour) & 1 == 1
 }
 
 // The band of an event that starts at that hour. The morning's reaches up to the evening's, so that it serves every profile.
@@ -34,22 +23,8 @@ fn band_mask(start: u32) -> u32
 }
 
 // A day's mask cut to the band of the event that starts at that hour: a day can have an event in each band.
-pub fn own_hours(mask: u32, start: u32) -> u32
+pub(crate) fn own_hours(mask: u32, start: u32) -> u32
     ensures { λ r. ⌜ r ≡ ownHours mask start ⌝ }
 {
     mask & band_mask(start)
-}
-
-// The length of the event whose hours the mask has: document 01's "count of ones".
-pub fn length_of(mask: u32) -> u32
-    ensures { λ r. ⌜ r ≡ ones mask ⌝ }
-{
-    u32::count_ones(mask)
-}
-
-// The start of the event whose hours the mask has: document 01's "count of trailing zeros".
-pub fn start_of(mask: u32) -> u32
-    ensures { λ r. ⌜ r ≡ trailingZeros 32 mask ⌝ }
-{
-    u32::trailing_zeros(mask)
 }

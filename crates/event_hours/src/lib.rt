@@ -1,9 +1,8 @@
-// The event hours of a book's days: 24 bits a day, bit h for hour h, and the masks of all 152 days in one value.
+// The event hours of a book's days: 24 bits a day, bit h for hour h, the masks of all 152 days in one value, and the events read back
+// from them.
 mod days;
+mod events;
 mod hours;
 
 pub use days::masks_of;
-pub use hours::has_hour;
-pub use hours::length_of;
-pub use hours::own_hours;
-pub use hours::start_of;
+pub use events::event_on;

@@ -7,7 +7,9 @@ use Rattle.calendar.specs.Answers.{easterSunday}
 use Rattle.calendar.specs.Easter.{noEasterYear, easterT, easterInBook}
 use Rattle.calendar.specs.Excluded.{among, goodFriday, easterMonday, excluded}
 use Rattle.calendar.specs.Weekdays.{firstWeekday, weekday, weekend}
-use Rattle.calendar.specs.Winters.{noWinter, leap, days, noDay, inPeriod}
+use Rattle.dates.specs.Winters.{noWinter, leap, days}
+use Rattle.calendar.specs.Days.{wrongWinter, noDay, inPeriod}
+use Rattle.calendar.specs.WinterOf.{winterOf}
 use Rattle.energy.specs.Asked.{hoursFrom, warmUp, askedBy, placesOn, needed}
 use Rattle.energy.specs.Energy.{sumOver, trimmedAt, energyOf}
 use Rattle.energy.specs.Line.{lineOf, eventAnswer}
@@ -24,7 +26,7 @@ use Rattle.form.specs.Places.{bookDays, misplaced, misplacedRead}
 use Rattle.form.specs.Said.{eventsOf, valuesOf, bookOf}
 use Rattle.laws.specs.Answer.{refuse}
 use Rattle.laws.specs.Table.{firstOf, orElse}
-use Rattle.money.specs.Lines.{eventBy, energyTo, centsAt, lineAt, linesTo}
+use Rattle.money.specs.Lines.{eventAt, energyTo, centsAt, lineAt, linesTo}
 use Rattle.money.specs.Refusals.{badBook, badPrice, shortOutput, callRows, refusalOf}
 use Rattle.money.specs.Settlement.{settledBy, writtenBy, settlement, written}
 use Rattle.money.specs.Worth.{roundedWorth}
@@ -46,5 +48,5 @@ use Rattle.figures.specs.ScheduleFigures.{mornings, hundredHours, schedu
 use Rattle.figures.specs.TextFigures.{bytesIn, sampleInput, sampleOutput, twice, textFigures}
 
 pub figures-hold : map (λ (f : Figure). f .paper) figures ≡ map (λ (f : Figure). f .computed) figures
-unfolding calendarFigures alsoExcluded alsoFrom easterSunday refuse noEasterYear easterT easterInBook among goodFriday easterMonday excluded leap days noDay scheduleFigures mornings hundredHours checkAnswer listAnswer badList fromNotice answerAt noticeAnswer noticeRows ownRows listRows firstOf orElse sofarAt noticeAt hoursOf hoursTo named figuresOf outsidePeriod onExcludedDay barredWeekend outsideBands badHours badLength startsBefore sameBand overLimit noWinter inPeriod firstWeekday weekday weekend energyFigures sampleDay sampleBook sampleList eventAnswer lineOf askedBy warmUp hoursFrom needed placesOn firstFault faultOf energyOf sumOver trimmedAt trimmedOf sumOf smallestOf largestOf sparedOf aboveLimit trialOf referenceDays before serves masksOf masksTo withHours marksNone hoursMask moneyFigures settlement settledBy written writtenBy refusalOf callRows badBook badPrice shortOutput linesTo lineAt centsAt energyTo eventBy roundedWorth textFigures bytesIn sampleInput sampleOutput twice statementOf formBytes valuesBytes settledBytes settlementBytes formOf bodyOf keyedAt fieldAt markAt wordAt wordFrom numberAt numberFrom digitsFrom digitOf eventLines readLines eventLineAt readLineAt headAt valuesAt misplacedRead misplaced bookDays eventsOf bookOf valuesOf statementLines refusedLines noticeLines noticeLine bytesOfLines lineBytes fields field decimal digitsIn
+unfolding calendarFigures alsoExcluded alsoFrom easterSunday refuse noEasterYear easterT easterInBook among goodFriday easterMonday excluded leap days winterOf wrongWinter noDay scheduleFigures mornings hundredHours checkAnswer listAnswer badList fromNotice answerAt noticeAnswer noticeRows ownRows listRows firstOf orElse sofarAt noticeAt hoursOf hoursTo named figuresOf outsidePeriod onExcludedDay barredWeekend outsideBands badHours badLength startsBefore sameBand overLimit noWinter inPeriod firstWeekday weekday weekend energyFigures sampleDay sampleBook sampleList eventAnswer lineOf askedBy warmUp hoursFrom needed placesOn firstFault faultOf energyOf sumOver trimmedAt trimmedOf sumOf smallestOf largestOf sparedOf aboveLimit trialOf referenceDays before serves masksOf masksTo withHours marksNone hoursMask moneyFigures settlement settledBy written writtenBy refusalOf callRows badBook badPrice shortOutput linesTo lineAt centsAt energyTo eventAt roundedWorth textFigures bytesIn sampleInput sampleOutput twice statementOf formBytes valuesBytes settledBytes settlementBytes formOf bodyOf keyedAt fieldAt markAt wordAt wordFrom numberAt numberFrom digitsFrom digitOf eventLines readLines eventLineAt readLineAt headAt valuesAt misplacedRead misplaced bookDays eventsOf bookOf valuesOf statementLines refusedLines noticeLines noticeLine bytesOfLines lineBytes fields field decimal digitsIn
 figures-hold = refl

@@ -1,1 +1,2 @@
+pub mod AllWinters
 pub mod FiguresHold

@@ -5,14 +5,15 @@ use mathlib.Core.Bool.{Bool, not, cond, _&&_}
 use mathlib.Core.List.{List, [], _∷_}
 use Rattle.calendar.specs.Answers.{easterSunday}
 use Rattle.calendar.specs.Excluded.{among, fixedDays, excluded}
-use Rattle.calendar.specs.Winters.{days}
+use Rattle.calendar.specs.WinterOf.{winterOf}
+use Rattle.dates.specs.Winters.{days}
 use Rattle.laws.specs.Answer.{given}
 use Rattle.figures.specs.Figure.{Figure, figure}
 
 -- d and the days after it, n in all, that winter y excludes besides the fixed days
 unfoldable pub alsoFrom : ℕ → ℕ → ℕ → List ℕ
 alsoFrom y d zero = []
-alsoFrom y d (suc n) = besides (excluded y d && not (among d fixedDays)) d (alsoFrom y (suc d) n)
+alsoFrom y d (suc n) = besides (excluded (winterOf y) d && not (among d fixedDays)) d (alsoFrom y (suc d) n)
   where
     besides : Bool → ℕ → List ℕ → List ℕ
     besides b d ds = cond b (d ∷ ds) ds

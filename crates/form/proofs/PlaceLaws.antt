@@ -8,11 +8,11 @@ use mathlib.Core.Path.{_≡_, refl, sym, ap, _∙_}
 use native.Mathlib.Omega.{arith}
 use lib.Dec.{eqb}
 use borrow.Author.Tests.{eqb-true, ne-eqb}
-use Rattle.calendar.proofs.Promise.{no-winter, is-winter, winter-count}
-use Rattle.calendar.specs.Answers.{daysPaper, winterDays}
-use Rattle.calendar.specs.Winters.{noWinter, days}
-use Rattle.calendar.specs.declared.answers.Days.{Days}
-use Rattle.calendar.specs.declared.answers.Days.the-variants.{Are, NoWinter}
+use Rattle.dates.proofs.Promise.{no-winter, is-winter, winter-count}
+use Rattle.dates.specs.Answers.{daysPaper, winterDays}
+use Rattle.dates.specs.Winters.{noWinter, days}
+use Rattle.dates.specs.declared.answers.Days.{Days}
+use Rattle.dates.specs.declared.answers.Days.the-variants.{Are, NoWinter}
 use Rattle.form.specs.Lines.{afterLines, readLineAt, readLines}
 use Rattle.form.specs.Places.{bookDays, hourPlace, misplaced, misplacedRead, placedLines}
 use Rattle.form.specs.declared.lines.Lines.{Lines}

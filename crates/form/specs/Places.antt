@@ -6,7 +6,7 @@ use Prim.Native.Nat.{ℕ, zero, suc, _+_, _*_}
 use mathlib.Core.Bool.{Bool, cond, _||_}
 use mathlib.Core.List.{List}
 use lib.Dec.{ltb, leb}
-use Rattle.calendar.specs.Winters.{noWinter, days}
+use Rattle.dates.specs.Winters.{noWinter, days}
 use Rattle.form.specs.Lines.{afterReading, afterLines, readLineAt, readLines}
 use Rattle.form.specs.declared.lines.Placed.{Placed}
 use Rattle.form.specs.declared.lines.Placed.the-variants as placed

@@ -4,13 +4,13 @@ ghost use mathlib.Core.Path.{_≡_};
 ghost use Prim.Native.Nat.{_≤_};
 ghost use lib.Dec.{eqb};
 ghost use Rattle.form.specs.Places.{bookDays, hourPlace, misplaced};
-use calendar::Days;
+use dates::Days;
 
 // The days of a winter's book; 0 where no winter has that name.
 pub(crate) fn book_days(winter: u32) -> usize
     ensures { λ r. ⌜ r ≡ bookDays winter ⌝ }
 {
-    match calendar::winter_days(winter) {
+    match dates::winter_days(winter) {
         Days::Are(days) => days as usize,
         Days::NoWinter => 0,
     }

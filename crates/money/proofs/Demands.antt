@@ -8,6 +8,7 @@ use mathlib.Core.Path.{_≡_, _∙_}
 use native.Mathlib.Omega.{arith}
 use lib.ListN.{length, drop}
 use lib.Seq.{drop-at}
+use Rattle.calendar.specs.WinterOf.{winterOf}
 use Rattle.energy.proofs.Given.{event-given}
 use Rattle.energy.specs.Line.{eventAnswer}
 use Rattle.event_hours.specs.Days.{masksOf}
@@ -16,7 +17,7 @@ use Rattle.laws.specs.Table.{isRefusal}
 use Rattle.notices.specs.Notices.{countOf, noticeAt}
 use Rattle.notices.specs.declared.profiles.Profile.the-variants.{Credit}
 use Rattle.schedule.proofs.Accepted.{accepted-iff-lawful}
-use Rattle.money.specs.Lines.{eventBy, eventAt, centsAt, linesTo}
+use Rattle.money.specs.Lines.{eventAt, centsAt, linesTo}
 use Rattle.money.specs.Printed.{codeIn, placeIn, energyIn, centsIn, runOf}
 use Rattle.money.specs.Refusals.{refusalOf}
 use Rattle.money.specs.Settlement.{settlement, linesIn, written}
@@ -78,12 +79,12 @@ module _ (w p : ℕ) (book l out : List ℕ) (ok : settlement w book p l (length
 
   -- DEMAND 2: the code, place and energy of a line are the answer on its event, which is not refused
   pub line-is-answer : (k : ℕ) → k < n
-      → eventAnswer w book (masksOf l) (noticeAt l k) ≡ given (codeIn output k ∷ placeIn output k ∷ energyIn output k ∷ [])
-  unfolding eventBy
+      → eventAnswer (winterOf w) book (masksOf l) (noticeAt l k) ≡ given (codeIn output k ∷ placeIn output k ∷ energyIn output k ∷ [])
+  unfolding eventAt
   line-is-answer k h =
       let s = settlement-right w (length book) p l (length out) none in
       let r = accepted-iff-lawful w Credit l .0 (list-accepted w (length book) p l (length out) none) in
-      event-given w book (masksOf l) (noticeAt l k) (s .winter) (s .book) (r .each k h)
+      event-given w book (masksOf l) (noticeAt l k) (s .book) (r .each k h)
       ∙ rw (output-is, code-is p events (drop (4 * n) out) n k h, place-is p events (drop (4 * n) out) n k h, energy-is p events (drop (4 * n) out) n k h)
 
   -- "Numbers past the last line are untouched."

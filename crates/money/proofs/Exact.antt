@@ -7,7 +7,7 @@ use mathlib.Core.List.{List}
 use mathlib.Core.Logic.{_⊎_, ⊎-elim, inl, inr, _↔_}
 use mathlib.Core.Path.{_≡_, refl, sym, ap, _∙_}
 use lib.ListN.{length, getD}
-use Rattle.calendar.specs.Winters.{days}
+use Rattle.dates.specs.Winters.{days}
 use Rattle.laws.proofs.Tables.{BrokenAt, first-broken, else-either}
 use Rattle.laws.specs.Table.{Row, firstOf, isRefusal}
 use Rattle.notices.specs.Notices.{countOf}

@@ -10,9 +10,15 @@ use native.Mathlib.Omega.{arith}
 use lib.ListN.{length, getD, drop, length-append, List·getD-append}
 use lib.Seq.{sets, getD-append-add}
 use Rattle.energy.proofs.Given.{answer-most}
+use Rattle.calendar.specs.WinterOf.{winterOf}
+use Rattle.calendar.specs.declared.answers.Winter.{Winter}
+use Rattle.event_hours.proofs.OwnHours.{event-back}
+use Rattle.event_hours.specs.Days.{masksOf}
+use Rattle.event_hours.specs.Events.{eventOn}
 use Rattle.laws.proofs.Stores.{sets-front}
-use Rattle.notices.specs.Notices.{noticeAt}
-use Rattle.money.specs.Lines.{eventBy, energyTo, centsAt, lineAt, linesTo}
+use Rattle.notices.specs.Notices.{countOf, noticeAt}
+use Rattle.schedule.proofs.Standing.{Standing}
+use Rattle.money.specs.Lines.{eventAt, eventIn, energyTo, centsAt, lineAt, linesTo}
 use Rattle.money.specs.Worth.{roundedWorth}
 use Rattle.money.specs.declared.lines.Event.{Event}
 use Rattle.money.proofs.WorthLaws.{worth-grows}
@@ -21,9 +27,28 @@ use Rattle.money.proofs.WorthLaws.{worth-grows}
 abbrev pub Small : (ℕ → Event) → Type 0
 Small events = (k : ℕ) → events k .energy ≤ 1500000000
 
-pub events-small : (w : ℕ) (book masks l : List ℕ) → Small (eventBy w book masks l)
-unfolding eventBy
-events-small w book masks l k = answer-most w book masks (noticeAt l k)
+pub events-small : (w : Winter) (book masks l : List ℕ) → Small (eventIn w book masks l)
+unfolding eventIn
+events-small w book masks l k = answer-most w book masks (eventOn masks (noticeAt l k))
+
+-- of a list that stands, the event that its masks hold for a notice is the notice
+pub same-event : {y : ℕ} {l : List ℕ} → Standing y l → (book : List ℕ) (k : ℕ) → k < countOf l → eventIn (winterOf y) book (masksOf l) l k ≡ eventAt y book l k
+unfolding eventIn eventAt
+same-event st book k h = rw (event-back st k h)
+
+-- sums and lines go by the events that they are of
+module _ (f g : ℕ → Event) where
+  pub energy-same : (n : ℕ) → ((k : ℕ) → k < n → f k ≡ g k) → energyTo f n ≡ energyTo g n
+  unfolding energyTo
+  energy-same zero same = refl
+  energy-same (suc n) same = rw (energy-same n (λ k h. same k (omega arith)), same n (omega arith))
+
+  pub lines-same : (p n : ℕ) → ((k : ℕ) → k < n → f k ≡ g k) → linesTo p f n ≡ linesTo p g n
+  unfolding linesTo lineAt centsAt energyTo
+  lines-same p zero same = refl
+  lines-same p (suc n) same =
+      let before : (k : ℕ) → k < n → f k ≡ g k = λ k h. same k (omega arith) in
+      rw (lines-same p n before, energy-same n before, same n (omega arith))
 
 module _ (events : ℕ → Event) where
   pub energy-next : (k : ℕ) → energyTo events (suc k) ≡ energyTo events k + events k .energy

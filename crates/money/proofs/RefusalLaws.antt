@@ -9,20 +9,22 @@ use native.Mathlib.Omega.{arith}
 use lib.Dec.{eqb, ltb}
 use lib.ListN.{length}
 use borrow.Author.Tests.{eq-eqb, ne-eqb, eqb-true, ltb-false, le-ltb, not-false}
-use Rattle.calendar.proofs.Promise.{winter-range, is-winter, winter-count}
-use Rattle.calendar.specs.Answers.{daysPaper, winterDays}
-use Rattle.calendar.specs.Winters.{noWinter, days}
-use Rattle.calendar.specs.declared.answers.Days.the-variants.{Are}
-use Rattle.calendar.specs.declared.answers.Days.{Days}
+use Rattle.dates.proofs.Promise.{winter-range, is-winter, winter-count}
+use Rattle.dates.specs.Answers.{daysPaper, winterDays}
+use Rattle.dates.specs.Winters.{noWinter, days}
+use Rattle.dates.specs.declared.answers.Days.the-variants.{Are}
+use Rattle.dates.specs.declared.answers.Days.{Days}
+use Rattle.calendar.specs.WinterOf.{winterOf}
 use Rattle.laws.proofs.Guards.{neither}
 use Rattle.laws.proofs.Tables.{Numbered, row-stops, row-goes, rows-end, accepted-none, none-accepted, not-refused, else-stop, else-go, else-none, Within, within-first, within-else}
 use Rattle.laws.specs.Answer.{Answer}
 use Rattle.laws.specs.Table.{accepted, refusalAt, firstOf, isRefusal}
 use Rattle.notices.specs.Notices.{countOf}
-use Rattle.schedule.proofs.Accepted.{whole-test, check-accepted}
+use Rattle.notices.specs.declared.profiles.Profile.the-variants.{Credit}
+use Rattle.schedule.proofs.Accepted.{whole-test, check-accepted, check-credit}
 use Rattle.schedule.proofs.Bounds.{check-within}
 use Rattle.schedule.proofs.Walk.{list-fits}
-use Rattle.schedule.specs.ListCheck.{badList, checkAnswer}
+use Rattle.schedule.specs.ListCheck.{badList, checkedIn, checkAnswer}
 use Rattle.money.specs.Refusals.{badBook, badPrice, shortOutput, callRows, refusalOf}
 
 module _ (w readings p numbers room : ℕ) where
@@ -60,16 +62,6 @@ module _ (w readings p numbers room : ℕ) where
           unfolding callRows
           none-refused f = row-goes _ _ _ (is-winter w count r q e) (row-goes _ _ _ right-book (row-goes _ _ _ m (row-goes _ _ _ l (row-goes _ _ _ f (rows-end _)))))
 
--- a call's refusal decides, else that of the notices
-module _ (w readings p : ℕ) (l : List ℕ) (room number : ℕ) (e : refusalAt number 0 ≡ firstOf 0 (callRows w readings p (length l) room)) where
-  pub refusal-call : (number ≡ 0 → ⊥) → refusalAt number 0 ≡ refusalOf w readings p l room
-  unfolding refusalOf
-  refusal-call f = rw (← e) (else-stop (refusalAt number 0) (checkAnswer w 1 l) (rw (ne-eqb number 0 f)))
-
-  pub refusal-notices : number ≡ 0 → (a : Answer) → a ≡ checkAnswer w 1 l → a ≡ refusalOf w readings p l room
-  unfolding refusalOf
-  refusal-notices z a q = rw (← e) (else-go (refusalAt number 0) (checkAnswer w 1 l) (rw z) q)
-
 -- what holds of a call that is not refused
 pub record RightCall (w readings p numbers room : ℕ) : Type 0 where
   pub winter : (2010 ≤ w) × (w ≤ 2098)
@@ -97,6 +89,20 @@ call-right w readings p numbers room e =
       few = list-fits numbers (n .1 .1 .1 .0) .1;
       room-for = ltb-false room (4 * (numbers / 3)) (n .1 .1 .1 .1 .0);
     }
+
+-- a call's refusal decides, else that of the notices
+module _ (w readings p : ℕ) (l : List ℕ) (room number : ℕ) (e : refusalAt number 0 ≡ firstOf 0 (callRows w readings p (length l) room)) where
+  pub refusal-call : (number ≡ 0 → ⊥) → refusalAt number 0 ≡ refusalOf w readings p l room
+  unfolding refusalOf
+  refusal-call f = rw (← e) (else-stop (refusalAt number 0) (checkAnswer w 1 l) (rw (ne-eqb number 0 f)))
+
+  -- in a winter, by its facts
+  pub refusal-notices : number ≡ 0 → noWinter w ≡ false → checkedIn (winterOf w) Credit l ≡ refusalOf w readings p l room
+  unfolding refusalOf
+  refusal-notices z v = rw (← e) (else-go (refusalAt number 0) (checkAnswer w 1 l) (rw z) (sym (check-credit w l v)))
+
+  pub call-is-right : number ≡ 0 → RightCall w readings p (length l) room
+  call-is-right z = call-right w readings p (length l) room (rw (← e, z))
 
 -- a settlement that is not refused: the call is right, and the list check accepts the list
 module _ (w readings p : ℕ) (l : List ℕ) (room : ℕ) (e : isRefusal (refusalOf w readings p l room) ≡ false) where

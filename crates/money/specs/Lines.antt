@@ -4,7 +4,10 @@ use Prim.Native.Nat.{ℕ, zero, suc, _+_, _-_}
 use mathlib.Core.List.{List, [], _∷_, _++_}
 use lib.ListN.{getD}
 use Rattle.energy.specs.Line.{eventAnswer}
+use Rattle.calendar.specs.WinterOf.{winterOf}
+use Rattle.calendar.specs.declared.answers.Winter.{Winter}
 use Rattle.event_hours.specs.Days.{masksOf}
+use Rattle.event_hours.specs.Events.{eventOn}
 use Rattle.laws.specs.Answer.{Answer}
 use Rattle.notices.specs.Notices.{noticeAt}
 use Rattle.money.specs.Worth.{roundedWorth}
@@ -14,12 +17,13 @@ use Rattle.money.specs.declared.lines.Event.{Event}
 abbrev pub eventOf : Answer → Event
 eventOf a = record { code = getD (a .values) 0 0; place = getD (a .values) 1 0; energy = getD (a .values) 2 0 }
 
--- the event that the notice at index k is, by the masks of some list and by those of its own
-unfoldable pub eventBy : ℕ → List ℕ → List ℕ → List ℕ → ℕ → Event
-eventBy w book masks l k = eventOf (eventAnswer w book masks (noticeAt l k))
+-- the event that the notice at index k is
+unfoldable pub eventAt : ℕ → List ℕ → List ℕ → ℕ → Event
+eventAt y book l k = eventOf (eventAnswer (winterOf y) book (masksOf l) (noticeAt l k))
 
-abbrev pub eventAt : ℕ → List ℕ → List ℕ → ℕ → Event
-eventAt w book l = eventBy w book (masksOf l) l
+-- the same as the code has it: by a winter's facts and some masks, the event being what these hold on the notice's day and in its band
+unfoldable pub eventIn : Winter → List ℕ → List ℕ → List ℕ → ℕ → Event
+eventIn w book masks l k = eventOf (eventAnswer w book masks (eventOn masks (noticeAt l k)))
 
 -- the energy of the first k events together
 unfoldable pub energyTo : (ℕ → Event) → ℕ → ℕ

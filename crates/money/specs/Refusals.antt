@@ -6,7 +6,7 @@ use mathlib.Core.Bool.{Bool, not, _||_}
 use mathlib.Core.List.{List, [], _∷_}
 use lib.Dec.{ltb, eqb}
 use lib.ListN.{length}
-use Rattle.calendar.specs.Winters.{noWinter, days}
+use Rattle.dates.specs.Winters.{noWinter, days}
 use Rattle.laws.specs.Answer.{Answer}
 use Rattle.laws.specs.Table.{Row, row, firstOf, orElse}
 use Rattle.schedule.specs.ListCheck.{badList, checkAnswer}

@@ -1,6 +1,6 @@
 -- The settlement of a winter: what it answers, and what it leaves in the lent output.
 -- Assumes nothing.
-use Prim.Native.Nat.{ℕ, _*_}
+use Prim.Native.Nat.{ℕ, _*_, _≤_}
 use mathlib.Core.Bool.{cond}
 use mathlib.Core.List.{List, _++_}
 use lib.ListN.{length, getD, drop}
@@ -39,3 +39,9 @@ settlement w book p l room = settledBy (refusalOf w (length book) p l room) p (e
 -- winter, book, price, list and output
 unfoldable pub written : ℕ → List ℕ → ℕ → List ℕ → List ℕ → List ℕ
 written w book p l out = writtenBy (refusalOf w (length book) p l (length out)) p (eventAt w book l) (countOf l) out
+
+-- what the private functions ask: the lines have room, and no number is too large
+pub record Fits (p : ℕ) (l : List ℕ) (room : ℕ) : Type 0 where
+  pub room-for : 4 * countOf l ≤ room
+  pub few : countOf l ≤ 100
+  pub price : p ≤ 1000000

@@ -5,9 +5,10 @@ ghost use Prim.Native.Nat.{_+_, _*_, _≤_};
 ghost use lib.ListN.{length};
 ghost use lib.Seq.{sets};
 ghost use Rattle.energy.specs.Line.{linePaper};
-ghost use Rattle.money.specs.Lines.{eventOf, eventBy, energyTo};
+ghost use Rattle.money.specs.Lines.{eventOf, eventIn, energyTo};
 ghost use Rattle.money.specs.Settlement.{linesIn};
 use crate::worth::rounded_worth;
+use calendar::Winter;
 use energy::Line;
 
 // An event of an accepted list: its code, its place and its spared energy.
@@ -44,13 +45,13 @@ fn event_of(line: Line) -> Event
     }
 }
 
-// The event that the notice at index k is. Its energy is small, whichever notice it is.
-fn event_by(winter: u32, book: &[u32], masks: &[u32; 152], list: &[u32], k: usize) -> Event
-    ensures { λ r. ⌜ r ≡ eventBy winter (now (book .entry)) (now (masks .entry)) (now (list .entry)) k ⌝ }
+// The event that the notice at index k is, its start and length taken from its day's bits. Its energy is small, whichever notice it is.
+fn event_by(w: Winter, book: &[u32], masks: &[u32; 152], list: &[u32], k: usize) -> Event
+    ensures { λ r. ⌜ r ≡ eventIn w (now (book .entry)) (now (masks .entry)) (now (list .entry)) k ⌝ }
     ensures { λ r. ⌜ r .energy ≤ 1500000000 ⌝ }
 {
-    let n = notices::notice_at(list, k);
-    event_of(energy::settle_event(winter, book, masks, n))
+    let n = event_hours::event_on(masks, notices::notice_at(list, k));
+    event_of(energy::settle_event(w, book, masks, n))
 }
 
 // Puts an event's code, place and energy and its cents from index `at` on.
@@ -67,7 +68,7 @@ fn put_line(out: &mut [u64], at: usize, event: Event, cents: u64)
 // Puts the lines of the first n notices, and gives their energy. What the lines before were worth is carried on, so that cents are
 // rounded on the sum and never line by line.
 pub(crate) fn put_lines(
-    winter: u32,
+    w: Winter,
     book: &[u32],
     masks: &[u32; 152],
     price: u32,
@@ -76,14 +77,14 @@ pub(crate) fn put_lines(
     n: usize,
 ) -> u64
     requires { ⌜ (4 * n ≤ length (now out)) × (n ≤ 100) × (price ≤ 1000000) ⌝ }
-    ensures { λ r. ⌜ r ≡ energyTo (eventBy winter (now (book .entry)) (now (masks .entry)) (now (list .entry))) n ⌝ }
-    ensures { λ _. ⌜ now (out .exit) ≡ linesIn price (eventBy winter (now (book .entry)) (now (masks .entry)) (now (list .entry))) n (now (out .entry)) ⌝ }
+    ensures { λ r. ⌜ r ≡ energyTo (eventIn w (now (book .entry)) (now (masks .entry)) (now (list .entry))) n ⌝ }
+    ensures { λ _. ⌜ now (out .exit) ≡ linesIn price (eventIn w (now (book .entry)) (now (masks .entry)) (now (list .entry))) n (now (out .entry)) ⌝ }
 {
     let mut energy: u64 = 0;
     let mut worth: u64 = 0;
     let mut k: usize = 0;
     while k < n {
-        let event = event_by(winter, book, masks, list, k);
+        let event = event_by(w, book, masks, list, k);
         let more = energy + event.energy;
         let next = rounded_worth(price, more);
         put_line(out, 4 * k, event, next - worth);

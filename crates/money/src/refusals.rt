@@ -1,14 +1,8 @@
 // What refuses a settlement before a reading is looked at.
 ghost use mathlib.Core.Path.{_≡_};
 ghost use Rattle.laws.specs.Table.{refusalAt, firstOf};
-ghost use Rattle.money.specs.Refusals.{badPrice, shortOutput, callRows, refusalOf};
-use calendar::Days;
-
-// A refusal number, 0 if nothing is refused, and its place.
-pub struct Refusal {
-    pub number: u32,
-    pub place: u32,
-}
+ghost use Rattle.money.specs.Refusals.{badPrice, shortOutput, callRows};
+use dates::Days;
 
 // 3: the price is outside 1 to 1,000,000.
 fn bad_price(price: u32) -> bool
@@ -29,7 +23,7 @@ fn short_output(numbers: usize, room: usize) -> bool
 pub fn call_refusal(winter: u32, readings: usize, price: u32, numbers: usize, room: usize) -> u32
     ensures { λ r. ⌜ refusalAt r 0 ≡ firstOf 0 (callRows winter readings price numbers room) ⌝ }
 {
-    let days = calendar::winter_days(winter);
+    let days = dates::winter_days(winter);
     let Days::Are(count) = days else {
         return 1;
     };
@@ -46,24 +40,4 @@ pub fn call_refusal(winter: u32, readings: usize, price: u32, numbers: usize, ro
         return 6;
     }
     0
-}
-
-// The refusal of a settlement: that of the call, or else that of the notices under profile 1.
-pub(crate) fn refusal_of(
-    winter: u32,
-    readings: usize,
-    price: u32,
-    list: &[u32],
-    room: usize,
-) -> Refusal
-    ensures { λ r. ⌜ refusalAt (r .number) (r .place) ≡ refusalOf winter readings price (now (list .entry)) room ⌝ }
-{
-    let number = call_refusal(winter, readings, price, list.len(), room);
-    if number != 0 {
-        return Refusal { number, place: 0 };
-    }
-    let verdict = schedule::check(winter, 1, list);
-    let number = schedule::number_of(verdict);
-    let place = schedule::place_of(verdict);
-    Refusal { number, place }
 }

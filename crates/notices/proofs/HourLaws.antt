@@ -7,7 +7,7 @@ use mathlib.Core.Logic.{_⊎_, inl, inr, ⊎-elim, _↔_}
 use mathlib.Core.Path.{_≡_, refl}
 use native.Mathlib.Omega.{arith}
 use lib.Dec.{leb, ltb}
-use borrow.Author.Tests.{ltb-false, leb-false, le-ltb, lt-leb}
+use borrow.Author.Tests.{ltb-false, leb-false, le-ltb, lt-ltb, lt-leb}
 use Rattle.laws.proofs.Guards.{neither, no-fault}
 use Rattle.notices.specs.Hours.{outsideBands, badHours, badLength}
 use Rattle.notices.specs.Notices.{hoursOf}
@@ -27,6 +27,19 @@ Evening n = (eveningStart ≤ n .start) × (n .end ≤ eveningEnd)
 one-holds : (a b : Bool) → (a && b) ≡ false → (a ≡ false) ⊎ (b ≡ false)
 one-holds true b h = inr h
 one-holds false b h = inl refl
+
+-- the bands by where the start lies
+and-true : (b : Bool) → b ≡ (b && true)
+and-true true = refl
+and-true false = refl
+
+pub before-evening : (f : Figures) (n : Notice) → n .start < eveningStart → (ltb (n .start) morningStart || ltb (f .morning) (n .end)) ≡ outsideBands f n
+unfolding outsideBands
+before-evening f n h = rw (lt-ltb (n .start) eveningStart h) (and-true (ltb (n .start) morningStart || ltb (f .morning) (n .end)))
+
+pub from-evening : (f : Figures) (n : Notice) → eveningStart ≤ n .start → (ltb (f .morning) (n .end) && ltb eveningEnd (n .end)) ≡ outsideBands f n
+unfolding outsideBands
+from-evening f n h = rw (le-ltb (n .start) eveningStart h, le-ltb (n .start) morningStart (omega arith))
 
 module _ (f : Figures) (n : Notice) where
   in-band : outsideBands f n ≡ false → Morning f n ⊎ Evening n

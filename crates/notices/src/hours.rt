@@ -6,19 +6,24 @@ use crate::notices::hours_of;
 use crate::profiles::Figures;
 use crate::profiles::Profile;
 
-// The hours are not inside one band.
+// The hours are not inside one band: the one that the start could lie in decides.
 fn outside_bands(f: Figures, n: Notice) -> bool
     ensures { λ r. ⌜ r ≡ outsideBands f n ⌝ }
 {
-    ((n.start < Profile::MORNING) | (f.morning < n.end))
-        & ((n.start < Profile::EVENING) | (Profile::EVENING_END < n.end))
+    if n.start < Profile::EVENING {
+        return (n.start < Profile::MORNING) | (f.morning < n.end);
+    }
+    (f.morning < n.end) & (Profile::EVENING_END < n.end)
 }
 
 // Rule 13: whether the hours of a notice are empty, reversed or not inside one band.
 pub fn bad_hours(f: Figures, n: Notice) -> bool
     ensures { λ r. ⌜ r ≡ badHours f n ⌝ }
 {
-    (n.end <= n.start) | outside_bands(f, n)
+    if n.end <= n.start {
+        return true;
+    }
+    outside_bands(f, n)
 }
 
 // Rule 14: whether the length of a notice is not allowed.

@@ -1,14 +1,18 @@
 // The calendar's calls. An answer is 2^32 times the refusal number plus the values.
 ghost use mathlib.Core.Path.{_≡_};
 ghost use lib.ListN.{length, getD};
-ghost use Rattle.calendar.specs.Answers.{winterDays, easterSunday, weekdayOf, weekendDay, excludedDay, dateOf, bookDayOf};
-ghost use Rattle.calendar.specs.Book.{dayReadings};
-ghost use Rattle.probe.specs.Told.{told};
-use calendar::Date;
-use calendar::Days;
-use calendar::Fact;
-use calendar::Number;
+ghost use Prim.Native.Nat.{_≤_};
+ghost use Rattle.laws.specs.Answer.{bit};
+ghost use Rattle.dates.specs.Answers.{winterDays, dateOf, bookDayOf};
+ghost use Rattle.calendar.specs.Answers.{kindPaper, easterSunday, weekdayOf, dayKind};
+ghost use Rattle.calendar.specs.declared.answers.Winter.{Winter};
+ghost use Rattle.probe.specs.Told.{told, kindTold, ofYear, partOf};
+use calendar::DayKind;
+use calendar::Known;
 use calendar::Sunday;
+use dates::Date;
+use dates::Days;
+use dates::Number;
 
 // Refusals 1 and 10, beside no value.
 const NO_WINTER: u64 = 4294967296;
@@ -20,7 +24,7 @@ const NO_DAY: u64 = 42949672960;
 pub extern "C" fn probe_days(winter: u32) -> u64
     ensures { λ r. ⌜ r ≡ told (winterDays winter) ⌝ }
 {
-    match calendar::winter_days(winter) {
+    match dates::winter_days(winter) {
         Days::Are(n) => n as u64,
         Days::NoWinter => NO_WINTER,
     }
@@ -49,29 +53,31 @@ pub extern "C" fn probe_weekday(winter: u32, day: u32) -> u64
     }
 }
 
-// Whether a book day is a Saturday or a Sunday.
-#[no_mangle]
-pub extern "C" fn probe_weekend(winter: u32, day: u32) -> u64
-    ensures { λ r. ⌜ r ≡ told (weekendDay winter day) ⌝ }
+// A yes or no as a number.
+fn bit_of(holds: bool) -> u64
+    ensures { λ r. ⌜ (r ≡ bit holds) × (r ≤ 1) ⌝ }
 {
-    match calendar::weekend_day(winter, day) {
-        Fact::Yes => 1,
-        Fact::No => 0,
-        Fact::NoWinter => NO_WINTER,
-        Fact::NoDay => NO_DAY,
+    if holds { 1 } else { 0 }
+}
+
+fn kind_told(kind: DayKind) -> u64
+    ensures { λ r. ⌜ r ≡ kindTold (kindPaper kind) ⌝ }
+{
+    match kind {
+        DayKind::Is(k) => 4 * bit_of(k.period) + 2 * bit_of(k.weekend) + bit_of(k.excluded),
+        DayKind::NoWinter => NO_WINTER,
+        DayKind::NoDay => NO_DAY,
     }
 }
 
-// Whether a book day is excluded.
+// The kind of a book day, in three bits: in the winter period, a weekend day, excluded.
 #[no_mangle]
-pub extern "C" fn probe_excluded(winter: u32, day: u32) -> u64
-    ensures { λ r. ⌜ r ≡ told (excludedDay winter day) ⌝ }
+pub extern "C" fn probe_kind(winter: u32, day: u32) -> u64
+    ensures { λ r. ⌜ r ≡ kindTold (ofYear winter (λ (w : Winter). dayKind w day)) ⌝ }
 {
-    match calendar::excluded_day(winter, day) {
-        Fact::Yes => 1,
-        Fact::No => 0,
-        Fact::NoWinter => NO_WINTER,
-        Fact::NoDay => NO_DAY,
+    match calendar::winter_of(winter) {
+        Known::Is(w) => kind_told(calendar::kind_of(w, day)),
+        Known::NoWinter => NO_WINTER,
     }
 }
 
@@ -80,7 +86,7 @@ pub extern "C" fn probe_excluded(winter: u32, day: u32) -> u64
 pub extern "C" fn probe_date(winter: u32, day: u32) -> u64
     ensures { λ r. ⌜ r ≡ told (dateOf winter day) ⌝ }
 {
-    match calendar::date_of(winter, day) {
+    match dates::date_of(winter, day) {
         Date::On(month, day) => month as u64 * 65536 + day as u64,
         Date::NoWinter => NO_WINTER,
         Date::NoDay => NO_DAY,
@@ -92,7 +98,7 @@ pub extern "C" fn probe_date(winter: u32, day: u32) -> u64
 pub extern "C" fn probe_book_day(winter: u32, month: u32, day: u32) -> u64
     ensures { λ r. ⌜ r ≡ told (bookDayOf winter month day) ⌝ }
 {
-    match calendar::book_day_of(winter, month, day) {
+    match dates::book_day_of(winter, month, day) {
         Number::Is(n) => n as u64,
         Number::NoWinter => NO_WINTER,
         Number::NoDay => NO_DAY,
@@ -102,18 +108,26 @@ pub extern "C" fn probe_book_day(winter: u32, month: u32, day: u32) -> u64
 // How many readings a day's part of a book has.
 #[no_mangle]
 pub extern "C" fn probe_part_length(winter: u32, book: &[u32], day: u32) -> usize
-    ensures { λ r. ⌜ r ≡ length (dayReadings winter (now (book .entry)) day) ⌝ }
+    ensures { λ r. ⌜ r ≡ length (partOf winter (now (book .entry)) day) ⌝ }
 {
-    let part = calendar::day_readings(winter, book, day);
+    let known = calendar::winter_of(winter);
+    let Known::Is(w) = known else {
+        return 0;
+    };
+    let part = calendar::day_readings(w, book, day);
     part.len()
 }
 
 // The reading of an hour in a day's part; 0 where the part has no such hour.
 #[no_mangle]
 pub extern "C" fn probe_part_reading(winter: u32, book: &[u32], day: u32, hour: usize) -> u32
-    ensures { λ r. ⌜ r ≡ getD (dayReadings winter (now (book .entry)) day) hour 0 ⌝ }
+    ensures { λ r. ⌜ r ≡ getD (partOf winter (now (book .entry)) day) hour 0 ⌝ }
 {
-    let part = calendar::day_readings(winter, book, day);
+    let known = calendar::winter_of(winter);
+    let Known::Is(w) = known else {
+        return 0;
+    };
+    let part = calendar::day_readings(w, book, day);
     if part.len() <= hour {
         return 0;
     }

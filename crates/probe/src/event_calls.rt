@@ -1,8 +1,10 @@
 // One event, by the masks of a list.
 ghost use mathlib.Core.Path.{_≡_};
 ghost use Rattle.energy.specs.Line.{linePaper, eventAnswer};
+ghost use Rattle.calendar.specs.declared.answers.Winter.{Winter};
 ghost use Rattle.event_hours.specs.Days.{masksOf};
-ghost use Rattle.probe.specs.Told.{told, energyTold};
+ghost use Rattle.probe.specs.Told.{told, energyTold, ofYear};
+use calendar::Known;
 use energy::Line;
 use notices::Notice;
 
@@ -22,20 +24,11 @@ const OUTSIDE_PERIOD: u64 = 10 * 4294967296;
 
 const BAD_HOURS: u64 = 13 * 4294967296;
 
-// The code and place of an event, or the refusal.
-#[no_mangle]
-pub extern "C" fn probe_event_fault(
-    winter: u32,
-    book: &[u32],
-    list: &[u32],
-    day: u32,
-    start: u32,
-    end: u32,
-) -> u64
-    ensures { λ r. ⌜ r ≡ told (eventAnswer winter (now (book .entry)) (masksOf (now (list .entry))) (record { day = day; start = start; end = end })) ⌝ }
+// The code and place of a line, or its refusal.
+fn fault_of(line: Line) -> u64
+    ensures { λ r. ⌜ r ≡ told (linePaper line) ⌝ }
 {
-    let masks = event_hours::masks_of(list);
-    match energy::settle_event(winter, book, &masks, Notice { day, start, end }) {
+    match line {
         Line::Settled(_) => 0,
         Line::FewDays => FEW_DAYS,
         Line::Missing(place) => MISSING + place as u64,
@@ -63,6 +56,33 @@ fn energy_of(line: Line) -> u64
     }
 }
 
+// The line of an event, by the masks of a list.
+fn line_of(winter: u32, book: &[u32], list: &[u32], day: u32, start: u32, end: u32) -> Line
+    ensures { λ r. ⌜ linePaper r ≡ ofYear winter (λ (w : Winter). eventAnswer w (now (book .entry)) (masksOf (now (list .entry))) (record { day = day; start = start; end = end })) ⌝ }
+{
+    let known = calendar::winter_of(winter);
+    let Known::Is(w) = known else {
+        return Line::NoWinter;
+    };
+    let masks = event_hours::masks_of(list);
+    energy::settle_event(w, book, &masks, Notice { day, start, end })
+}
+
+// The code and place of an event, or the refusal.
+#[no_mangle]
+pub extern "C" fn probe_event_fault(
+    winter: u32,
+    book: &[u32],
+    list: &[u32],
+    day: u32,
+    start: u32,
+    end: u32,
+) -> u64
+    ensures { λ r. ⌜ r ≡ told (ofYear winter (λ (w : Winter). eventAnswer w (now (book .entry)) (masksOf (now (list .entry))) (record { day = day; start = start; end = end }))) ⌝ }
+{
+    fault_of(line_of(winter, book, list, day, start, end))
+}
+
 // The energy of an event, 0 where it is unsettled or refused.
 #[no_mangle]
 pub extern "C" fn probe_event_energy(
@@ -73,8 +93,7 @@ pub extern "C" fn probe_event_energy(
     start: u32,
     end: u32,
 ) -> u64
-    ensures { λ r. ⌜ r ≡ energyTold (eventAnswer winter (now (book .entry)) (masksOf (now (list .entry))) (record { day = day; start = start; end = end })) ⌝ }
+    ensures { λ r. ⌜ r ≡ energyTold (ofYear winter (λ (w : Winter). eventAnswer w (now (book .entry)) (masksOf (now (list .entry))) (record { day = day; start = start; end = end }))) ⌝ }
 {
-    let masks = event_hours::masks_of(list);
-    energy_of(energy::settle_event(winter, book, &masks, Notice { day, start, end }))
+    energy_of(line_of(winter, book, list, day, start, end))
 }

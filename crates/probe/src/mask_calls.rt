@@ -1,9 +1,9 @@
 // The event hours of a list.
 ghost use mathlib.Core.Path.{_≡_};
-ghost use lib.Count.{ones, trailingZeros};
 ghost use lib.ListN.{getD};
 ghost use Rattle.event_hours.specs.Days.{masksOf};
-ghost use Rattle.event_hours.specs.Hours.{ownHours};
+ghost use Rattle.event_hours.specs.Events.{eventOn};
+use notices::Notice;
 
 // The event hours of a day, none past day 151.
 #[no_mangle]
@@ -17,26 +17,36 @@ pub extern "C" fn probe_mask(list: &[u32], day: usize) -> u32
     masks[day]
 }
 
-// A mask cut to the band of a start.
+// The first hour of the event that the masks hold on a day, in the band of an hour.
 #[no_mangle]
-pub extern "C" fn probe_own_hours(mask: u32, start: u32) -> u32
-    ensures { λ r. ⌜ r ≡ ownHours mask start ⌝ }
+pub extern "C" fn probe_event_start(list: &[u32], day: u32, start: u32) -> u32
+    ensures { λ r. ⌜ r ≡ eventOn (masksOf (now (list .entry))) (record { day = day; start = start; end = start }) .start ⌝ }
 {
-    event_hours::own_hours(mask, start)
+    let masks = event_hours::masks_of(list);
+    let event = event_hours::event_on(
+        &masks,
+        Notice {
+            day,
+            start,
+            end: start,
+        },
+    );
+    event.start
 }
 
-// The start of the event whose hours the mask has.
+// Its end.
 #[no_mangle]
-pub extern "C" fn probe_start(mask: u32) -> u32
-    ensures { λ r. ⌜ r ≡ trailingZeros 32 mask ⌝ }
+pub extern "C" fn probe_event_end(list: &[u32], day: u32, start: u32) -> u32
+    ensures { λ r. ⌜ r ≡ eventOn (masksOf (now (list .entry))) (record { day = day; start = start; end = start }) .end ⌝ }
 {
-    event_hours::start_of(mask)
-}
-
-// The length of the event whose hours the mask has.
-#[no_mangle]
-pub extern "C" fn probe_length(mask: u32) -> u32
-    ensures { λ r. ⌜ r ≡ ones mask ⌝ }
-{
-    event_hours::length_of(mask)
+    let masks = event_hours::masks_of(list);
+    let event = event_hours::event_on(
+        &masks,
+        Notice {
+            day,
+            start,
+            end: start,
+        },
+    );
+    event.end
 }

@@ -10,8 +10,9 @@ use native.Mathlib.Nat.{eq-or-lt-of-le}
 use native.Mathlib.Omega.{arith}
 use lib.ListN.{length}
 use borrow.Author.Tests.{eq-eqb, le-ltb}
-use Rattle.calendar.proofs.Promise.{winter-range}
-use Rattle.calendar.specs.Winters.{noWinter}
+use Rattle.calendar.specs.WinterOf.{winterOf}
+use Rattle.dates.proofs.Promise.{winter-range}
+use Rattle.dates.specs.Winters.{noWinter}
 use Rattle.laws.proofs.Refusals.{kept}
 use Rattle.laws.proofs.Tables.{refuse-accepted, refuse-none, else-go, else-none, else-accepted}
 use Rattle.laws.specs.Table.{accepted, refusalAt, isRefusal}
@@ -24,10 +25,12 @@ use Rattle.notices.specs.declared.notices.Notice.{Notice}
 use Rattle.notices.specs.declared.profiles.Figures.{Figures}
 use Rattle.notices.specs.declared.profiles.Named.the-variants.{Is, NoProfile}
 use Rattle.notices.specs.declared.profiles.Named.{Named}
+use Rattle.notices.specs.declared.profiles.Profile.the-variants.{Credit}
 use Rattle.notices.specs.declared.profiles.Profile.{Profile}
-use Rattle.schedule.specs.ListCheck.{sofarAt, answerAt, fromNotice, badList, listAnswer, namedAnswer, checkAnswer}
+use Rattle.schedule.specs.ListCheck.{sofarAt, answerAt, fromNotice, badList, listAnswer, checkedIn, namedAnswer, checkAnswer}
 use Rattle.schedule.specs.declared.rules.Sofar.{Sofar}
 use Rattle.schedule.proofs.Lawful.{Sound, Alike, Follows, period-iff, open-iff, week-iff, order-iff, apart-iff, limit-iff}
+use Rattle.schedule.proofs.RuleLaws.{checked-right}
 use Rattle.schedule.proofs.Walk.{Passed, passed, passed-accepted, sofar-hours, list-fits}
 
 -- a list that keeps every rule: every notice by itself, every notice against the one before it, and the hours together
@@ -42,7 +45,7 @@ pub record Lawful (w : ℕ) (f : Figures) (l : List ℕ) : Type 0 where
 -- what a notice has passed, and what it keeps
 
 module _ (w : ℕ) (f : Figures) (so : Sofar) (n : Notice) where
-  pub passed-sound : Passed w f so n → Sound w f n
+  pub passed-sound : Passed (winterOf w) f so n → Sound w f n
   passed-sound t =
       record {
         period = period-iff w f n .0 (t .period);
@@ -53,7 +56,7 @@ module _ (w : ℕ) (f : Figures) (so : Sofar) (n : Notice) where
         long = long-iff f n .0 (t .long);
       }
 
-  sound-passed : Sound w f n → Follows (so .last) n → so .hours + hoursOf n ≤ f .hours → Passed w f so n
+  sound-passed : Sound w f n → Follows (so .last) n → so .hours + hoursOf n ≤ f .hours → Passed (winterOf w) f so n
   sound-passed s o h =
       record {
         period = period-iff w f n .1 (s .period);
@@ -74,16 +77,16 @@ first-follows w f n s =
 
 module _ (w : ℕ) (f : Figures) (l : List ℕ) where
   abbrev AllPassed : ℕ → Type 0
-  AllPassed n = (k : ℕ) → k < n → Passed w f (sofarAt l k) (noticeAt l k)
+  AllPassed n = (k : ℕ) → k < n → Passed (winterOf w) f (sofarAt l k) (noticeAt l k)
 
-  hours-at : (k : ℕ) → Passed w f (sofarAt l k) (noticeAt l k) → hoursTo l (suc k) ≤ f .hours
+  hours-at : (k : ℕ) → Passed (winterOf w) f (sofarAt l k) (noticeAt l k) → hoursTo l (suc k) ≤ f .hours
   hours-at k t = rw (hours-next l k, ← sofar-hours l k) (limit-iff f (sofarAt l k) (noticeAt l k) .0 (t .limit))
 
   all-hours : (n : ℕ) → AllPassed n → hoursTo l n ≤ f .hours
   all-hours zero t = omega (arith, hours-none l)
   all-hours (suc n) t = hours-at n (t n (omega arith))
 
-  follows-at : (k : ℕ) → Passed w f (sofarAt l (suc k)) (noticeAt l (suc k)) → Follows (noticeAt l k) (noticeAt l (suc k))
+  follows-at : (k : ℕ) → Passed (winterOf w) f (sofarAt l (suc k)) (noticeAt l (suc k)) → Follows (noticeAt l k) (noticeAt l (suc k))
   unfolding sofarAt
   follows-at k t =
       record { order = order-iff (noticeAt l k) (noticeAt l (suc k)) .0 (t .order); apart = apart-iff (noticeAt l k) (noticeAt l (suc k)) .0 (t .apart) }
@@ -100,27 +103,27 @@ module _ (w : ℕ) (f : Figures) (l : List ℕ) where
 -- the walk accepts exactly when every notice passes
 
 module _ (w : ℕ) (f : Figures) (l : List ℕ) where
-  pub walk-passes : (left k : ℕ) → fromNotice w f l left k ≡ accepted → (j : ℕ) → k ≤ j → j < k + left → isRefusal (answerAt w f l j) ≡ false
+  pub walk-passes : (left k : ℕ) → fromNotice (winterOf w) f l left k ≡ accepted → (j : ℕ) → k ≤ j → j < k + left → isRefusal (answerAt (winterOf w) f l j) ≡ false
   unfolding fromNotice
   walk-passes zero k e j a b = absurd (omega arith)
   walk-passes (suc left) k e j a b =
-      let p = else-accepted (answerAt w f l k) (fromNotice w f l left (suc k)) e in
+      let p = else-accepted (answerAt (winterOf w) f l k) (fromNotice (winterOf w) f l left (suc k)) e in
       ⊎-elim (λ (q : k ≡ j). rw q at (p .0)) (λ (q : k < j). walk-passes left (suc k) (p .1) j q (omega arith)) (eq-or-lt-of-le a)
 
-  pub passes-walk : (left k : ℕ) → ((j : ℕ) → k ≤ j → j < k + left → answerAt w f l j ≡ accepted) → fromNotice w f l left k ≡ accepted
+  pub passes-walk : (left k : ℕ) → ((j : ℕ) → k ≤ j → j < k + left → answerAt (winterOf w) f l j ≡ accepted) → fromNotice (winterOf w) f l left k ≡ accepted
   unfolding fromNotice
   passes-walk zero k g = refl
   passes-walk (suc left) k g =
-      sym (else-go (answerAt w f l k) (fromNotice w f l left (suc k)) (ap isRefusal (g k (omega arith) (omega arith)))
+      sym (else-go (answerAt (winterOf w) f l k) (fromNotice (winterOf w) f l left (suc k)) (ap isRefusal (g k (omega arith) (omega arith)))
       (sym (passes-walk left (suc k) (λ j a b. g j (omega arith) (omega arith)))))
 
-  all-passed : (n : ℕ) → fromNotice w f l n 0 ≡ accepted → AllPassed w f l n
+  all-passed : (n : ℕ) → fromNotice (winterOf w) f l n 0 ≡ accepted → AllPassed w f l n
   unfolding answerAt
-  all-passed n e k h = passed w f (sofarAt l k) (noticeAt l k) k (walk-passes n 0 e k (omega arith) (omega arith))
+  all-passed n e k h = passed (winterOf w) f (sofarAt l k) (noticeAt l k) k (walk-passes n 0 e k (omega arith) (omega arith))
 
-  passed-all : (n : ℕ) → AllPassed w f l n → fromNotice w f l n 0 ≡ accepted
+  passed-all : (n : ℕ) → AllPassed w f l n → fromNotice (winterOf w) f l n 0 ≡ accepted
   unfolding answerAt
-  passed-all n t = passes-walk n 0 (λ j a b. passed-accepted w f (sofarAt l j) (noticeAt l j) j (t j (omega arith)))
+  passed-all n t = passes-walk n 0 (λ j a b. passed-accepted (winterOf w) f (sofarAt l j) (noticeAt l j) j (t j (omega arith)))
 
 -- the whole call
 
@@ -129,10 +132,10 @@ unfolding badList
 whole-test n a b = rw (eq-eqb (n % 3) 0 a) (le-ltb 300 n (omega arith))
 
 module _ (w : ℕ) (f : Figures) (l : List ℕ) where
-  pub list-lawful : noWinter w ≡ false → listAnswer w f l ≡ accepted → Lawful w f l
+  pub list-lawful : noWinter w ≡ false → listAnswer (winterOf w) f l ≡ accepted → Lawful w f l
   unfolding listAnswer
   list-lawful v e =
-      let p = refuse-accepted (badList (length l)) 4 0 (fromNotice w f l (countOf l) 0) (omega arith) e in
+      let p = refuse-accepted (badList (length l)) 4 0 (fromNotice (winterOf w) f l (countOf l) 0) (omega arith) e in
       let fits = list-fits (length l) (p .0) in
       let t = all-passed w f l (countOf l) (p .1) in
       record {
@@ -144,7 +147,7 @@ module _ (w : ℕ) (f : Figures) (l : List ℕ) where
         hours = all-hours w f l (countOf l) t;
       }
 
-  lawful-list : Lawful w f l → listAnswer w f l ≡ accepted
+  lawful-list : Lawful w f l → listAnswer (winterOf w) f l ≡ accepted
   unfolding listAnswer
   lawful-list r =
       sym (kept (refusalAt 4 0) (whole-test (length l) (r .whole) (r .few)) (sym (passed-all w f l (countOf l) (passed-at w f l (countOf l) (r .each) (r .follows) (r .hours)))))
@@ -154,30 +157,35 @@ pub accepted-iff-lawful : (w : ℕ) (p : Profile) (l : List ℕ) → (checkAnswe
 unfolding checkAnswer
 accepted-iff-lawful w p l =
     rw (named-number p) (
-      λ e. let q = refuse-accepted (noWinter w) 1 0 (listAnswer w (figuresOf p) l) (omega arith) e in list-lawful w (figuresOf p) l (q .0) (q .1),
+      λ e. let q = refuse-accepted (noWinter w) 1 0 (listAnswer (winterOf w) (figuresOf p) l) (omega arith) e in list-lawful w (figuresOf p) l (q .0) (q .1),
       λ r. sym (kept (refusalAt 1 0) (winter-range w .1 (r .winter)) (sym (lawful-list w (figuresOf p) l r))),
     )
 
 -- a list that is not refused is accepted
 
-from-accepted : (w : ℕ) (f : Figures) (l : List ℕ) (left k : ℕ) → isRefusal (fromNotice w f l left k) ≡ false → fromNotice w f l left k ≡ accepted
+from-accepted : (w : ℕ) (f : Figures) (l : List ℕ) (left k : ℕ) → isRefusal (fromNotice (winterOf w) f l left k) ≡ false → fromNotice (winterOf w) f l left k ≡ accepted
 unfolding fromNotice
 from-accepted w f l zero k e = refl
 from-accepted w f l (suc left) k e =
-    let p = else-none (answerAt w f l k) (fromNotice w f l left (suc k)) e in
-    sym (else-go (answerAt w f l k) (fromNotice w f l left (suc k)) (p .0) (sym (from-accepted w f l left (suc k) (p .1))))
+    let p = else-none (answerAt (winterOf w) f l k) (fromNotice (winterOf w) f l left (suc k)) e in
+    sym (else-go (answerAt (winterOf w) f l k) (fromNotice (winterOf w) f l left (suc k)) (p .0) (sym (from-accepted w f l left (suc k) (p .1))))
 
-list-accepted : (w : ℕ) (f : Figures) (l : List ℕ) → isRefusal (listAnswer w f l) ≡ false → listAnswer w f l ≡ accepted
+list-accepted : (w : ℕ) (f : Figures) (l : List ℕ) → isRefusal (listAnswer (winterOf w) f l) ≡ false → listAnswer (winterOf w) f l ≡ accepted
 unfolding listAnswer
 list-accepted w f l e =
-    let p = refuse-none (badList (length l)) 4 0 (fromNotice w f l (countOf l) 0) (omega arith) e in
+    let p = refuse-none (badList (length l)) 4 0 (fromNotice (winterOf w) f l (countOf l) 0) (omega arith) e in
     sym (kept (refusalAt 4 0) (p .0) (sym (from-accepted w f l (countOf l) 0 (p .1))))
 
 pub check-accepted : (w q : ℕ) (l : List ℕ) → isRefusal (checkAnswer w q l) ≡ false → checkAnswer w q l ≡ accepted
 unfolding checkAnswer
 check-accepted w q l e =
-    let p = refuse-none (noWinter w) 1 0 (namedAnswer w (named q) l) (omega arith) e in sym (kept (refusalAt 1 0) (p .0) (sym (by (named q) (p .1))))
+    let p = refuse-none (noWinter w) 1 0 (namedAnswer (winterOf w) (named q) l) (omega arith) e in sym (kept (refusalAt 1 0) (p .0) (sym (by (named q) (p .1))))
   where
-    by : (x : Named) → isRefusal (namedAnswer w x l) ≡ false → namedAnswer w x l ≡ accepted
+    by : (x : Named) → isRefusal (namedAnswer (winterOf w) x l) ≡ false → namedAnswer (winterOf w) x l ≡ accepted
     by (Is p) e = list-accepted w (figuresOf p) l e
     by NoProfile e = absurd (true≢false e)
+
+-- and in a winter the check under profile 1 is that by the winter's facts
+pub check-credit : (y : ℕ) (l : List ℕ) → noWinter y ≡ false → checkAnswer y 1 l ≡ checkedIn (winterOf y) Credit l
+unfolding checkAnswer
+check-credit y l v = sym (kept (refusalAt 1 0) v (rw (named-number Credit) (checked-right y Credit l)))

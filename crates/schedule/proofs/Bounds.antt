@@ -6,7 +6,8 @@ use mathlib.Core.List.{List}
 use mathlib.Core.Path.{_≡_, refl, sym, subst, _∙_}
 use native.Mathlib.Omega.{arith}
 use lib.ListN.{length}
-use Rattle.calendar.specs.Winters.{noWinter}
+use Rattle.calendar.specs.WinterOf.{winterOf}
+use Rattle.dates.specs.Winters.{noWinter}
 use Rattle.laws.proofs.Refusals.{refused, either-way}
 use Rattle.laws.proofs.Tables.{Within, within-refuse, within-else, within-first}
 use Rattle.laws.specs.Table.{refusalAt}
@@ -21,19 +22,19 @@ use Rattle.schedule.specs.declared.verdicts.Verdict.{Verdict}
 use Rattle.schedule.proofs.Walk.{list-fits}
 
 module _ (w : ℕ) (l : List ℕ) where
-  answer-within : (f : Figures) (p k : ℕ) → k ≤ p → Within 18 p (answerAt w f l k)
+  answer-within : (f : Figures) (p k : ℕ) → k ≤ p → Within 18 p (answerAt (winterOf w) f l k)
   unfolding answerAt noticeAnswer noticeRows ownRows listRows
   answer-within f p k h =
-      within-first 18 p k (noticeRows w f (sofarAt l k) (noticeAt l k)) h
+      within-first 18 p k (noticeRows (winterOf w) f (sofarAt l k) (noticeAt l k)) h
       (omega arith, (omega arith, (omega arith, (omega arith, (omega arith, (omega arith, (omega arith, (omega arith, tt))))))))
 
-  from-within : (f : Figures) (p left k : ℕ) → k + left ≤ p → Within 18 p (fromNotice w f l left k)
+  from-within : (f : Figures) (p left k : ℕ) → k + left ≤ p → Within 18 p (fromNotice (winterOf w) f l left k)
   unfolding fromNotice
   from-within f p zero k h = (omega arith, omega arith)
   from-within f p (suc left) k h =
-      within-else 18 p (answerAt w f l k) (fromNotice w f l left (suc k)) (answer-within f p k (omega arith)) (from-within f p left (suc k) (omega arith))
+      within-else 18 p (answerAt (winterOf w) f l k) (fromNotice (winterOf w) f l left (suc k)) (answer-within f p k (omega arith)) (from-within f p left (suc k) (omega arith))
 
-  list-within : (f : Figures) → Within 18 100 (listAnswer w f l)
+  list-within : (f : Figures) → Within 18 100 (listAnswer (winterOf w) f l)
   unfolding listAnswer
   list-within f =
       either-way (Within 18 100) (badList (length l)) (λ q. (omega arith, omega arith))
@@ -42,9 +43,9 @@ module _ (w : ℕ) (l : List ℕ) where
   -- no number is above 18, and no place above 100
   pub check-within : (q : ℕ) → Within 18 100 (checkAnswer w q l)
   unfolding checkAnswer
-  check-within q = within-refuse 18 100 (noWinter w) (refusalAt 1 0) (namedAnswer w (named q) l) (omega arith, omega arith) (by (named q))
+  check-within q = within-refuse 18 100 (noWinter w) (refusalAt 1 0) (namedAnswer (winterOf w) (named q) l) (omega arith, omega arith) (by (named q))
     where
-      by : (x : Named) → Within 18 100 (namedAnswer w x l)
+      by : (x : Named) → Within 18 100 (namedAnswer (winterOf w) x l)
       by (Is p) = list-within (figuresOf p)
       by NoProfile = (omega arith, omega arith)
 
@@ -57,10 +58,10 @@ pub bad-lists-alike : (w q : ℕ) (l m : List ℕ) → badList (length l) ≡ tr
 unfolding checkAnswer listAnswer
 bad-lists-alike w q l m bl bm = rw (by (named q))
   where
-    list-alike : (f : Figures) → listAnswer w f l ≡ listAnswer w f m
-    list-alike f = sym (refused (refusalAt 4 0) (fromNotice w f l (countOf l) 0) bl) ∙ refused (refusalAt 4 0) (fromNotice w f m (countOf m) 0) bm
+    list-alike : (f : Figures) → listAnswer (winterOf w) f l ≡ listAnswer (winterOf w) f m
+    list-alike f = sym (refused (refusalAt 4 0) (fromNotice (winterOf w) f l (countOf l) 0) bl) ∙ refused (refusalAt 4 0) (fromNotice (winterOf w) f m (countOf m) 0) bm
 
-    by : (x : Named) → namedAnswer w x l ≡ namedAnswer w x m
+    by : (x : Named) → namedAnswer (winterOf w) x l ≡ namedAnswer (winterOf w) x m
     by (Is p) = list-alike (figuresOf p)
     by NoProfile = refl
 

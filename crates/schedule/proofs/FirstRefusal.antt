@@ -9,7 +9,9 @@ use mathlib.Core.Path.{_≡_, refl, sym, ap, _∙_}
 use native.Mathlib.Nat.{eq-or-lt-of-le, zero-add}
 use native.Mathlib.Omega.{arith}
 use lib.ListN.{length}
-use Rattle.calendar.specs.Winters.{noWinter}
+use Rattle.calendar.specs.WinterOf.{winterOf}
+use Rattle.calendar.specs.declared.answers.Winter.{Winter}
+use Rattle.dates.specs.Winters.{noWinter}
 use Rattle.laws.proofs.Refusals.{either-way}
 use Rattle.laws.proofs.Tables.{BrokenAt, first-broken, else-stop, else-go}
 use Rattle.laws.specs.Answer.{Answer}
@@ -24,7 +26,7 @@ use Rattle.schedule.specs.ListCheck.{noticeRows, noticeAnswer, sofarAt, 
 use Rattle.schedule.proofs.Walk.{Passed, passed}
 
 -- the first notice that breaks a rule, from index k on of n: those before it pass, and its first broken row gives the number
-pub record FirstAt (w : ℕ) (f : Figures) (l : List ℕ) (k n : ℕ) (a : Answer) : Type 0 where
+pub record FirstAt (w : Winter) (f : Figures) (l : List ℕ) (k n : ℕ) (a : Answer) : Type 0 where
   pub index : ℕ
   pub from : k ≤ index
   pub below : index < n
@@ -32,7 +34,7 @@ pub record FirstAt (w : ℕ) (f : Figures) (l : List ℕ) (k n : ℕ) (a : Answe
   pub broken : BrokenAt index (noticeRows w f (sofarAt l index) (noticeAt l index))
   pub answer : a ≡ refusalAt (broken .number) index
 
-module _ (w : ℕ) (f : Figures) (l : List ℕ) where
+module _ (w : Winter) (f : Figures) (l : List ℕ) where
   this-one : (k n : ℕ) (a : Answer) → k < n → isRefusal (answerAt w f l k) ≡ true → a ≡ answerAt w f l k → FirstAt w f l k n a
   unfolding answerAt noticeAnswer
   this-one k n a h e q =
@@ -74,19 +76,19 @@ pub data WhyRefused (w q : ℕ) (l : List ℕ) (a : Answer) : Type 0 where
   no-winter : noWinter w ≡ true → a ≡ refusalAt 1 0 → WhyRefused w q l a
   no-profile : noWinter w ≡ false → named q ≡ NoProfile → a ≡ refusalAt 5 0 → WhyRefused w q l a
   bad-list : (p : Profile) → noWinter w ≡ false → named q ≡ Is p → badList (length l) ≡ true → a ≡ refusalAt 4 0 → WhyRefused w q l a
-  at-notice : (p : Profile) → noWinter w ≡ false → named q ≡ Is p → badList (length l) ≡ false → FirstAt w (figuresOf p) l 0 (countOf l) a → WhyRefused w q l a
+  at-notice : (p : Profile) → noWinter w ≡ false → named q ≡ Is p → badList (length l) ≡ false → FirstAt (winterOf w) (figuresOf p) l 0 (countOf l) a → WhyRefused w q l a
 
 module _ (w q : ℕ) (l : List ℕ) (a : Answer) (e : isRefusal a ≡ true) where
   abbrev Why : Answer → Type 0
   Why b = a ≡ b → WhyRefused w q l a
 
-  by-list : (p : Profile) → noWinter w ≡ false → named q ≡ Is p → Why (listAnswer w (figuresOf p) l)
+  by-list : (p : Profile) → noWinter w ≡ false → named q ≡ Is p → Why (listAnswer (winterOf w) (figuresOf p) l)
   unfolding listAnswer
   by-list p v n =
       either-way Why (badList (length l)) (λ b s. bad-list p v n b s)
-      (λ b s. at-notice p v n b (rw s (rw (zero-add (countOf l)) at (first-from w (figuresOf p) l (countOf l) 0 (ap isRefusal (sym s) ∙ e)))))
+      (λ b s. at-notice p v n b (rw s (rw (zero-add (countOf l)) at (first-from (winterOf w) (figuresOf p) l (countOf l) 0 (ap isRefusal (sym s) ∙ e)))))
 
-  by-profile : noWinter w ≡ false → (x : Named) → named q ≡ x → Why (namedAnswer w x l)
+  by-profile : noWinter w ≡ false → (x : Named) → named q ≡ x → Why (namedAnswer (winterOf w) x l)
   by-profile v (Is p) n s = by-list p v n s
   by-profile v NoProfile n s = no-profile v n s
 

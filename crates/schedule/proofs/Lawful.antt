@@ -9,10 +9,12 @@ use native.Mathlib.Nat.{eq-or-lt-of-le}
 use native.Mathlib.Omega.{arith}
 use lib.Dec.{ltb, eqb}
 use borrow.Author.Tests.{ltb-false, eqb-true, eq-eqb, ne-eqb, le-ltb, not-true, not-false}
+use Rattle.calendar.specs.WinterOf.{winterOf}
 use Rattle.calendar.proofs.Promise.{period-day}
 use Rattle.calendar.specs.Excluded.{excluded}
 use Rattle.calendar.specs.Weekdays.{weekend}
-use Rattle.calendar.specs.Winters.{days, inPeriod}
+use Rattle.dates.specs.Winters.{days}
+use Rattle.calendar.specs.Days.{inPeriod}
 use Rattle.laws.proofs.Guards.{both, neither, no-fault}
 use Rattle.notices.proofs.HourLaws.{Morning, Evening}
 use Rattle.notices.specs.Notices.{hoursOf}
@@ -27,8 +29,8 @@ use Rattle.schedule.specs.declared.rules.Sofar.{Sofar}
 -- 10 to 14: a notice by itself
 pub record Sound (w : ℕ) (f : Figures) (n : Notice) : Type 0 where
   pub period : (30 ≤ n .day) × (n .day < days w)
-  pub open-day : excluded w (n .day) ≡ false
-  pub week : f .weekends ≡ false → weekend w (n .day) ≡ false
+  pub open-day : excluded (winterOf w) (n .day) ≡ false
+  pub week : f .weekends ≡ false → weekend (winterOf w) (n .day) ≡ false
   pub some-hour : n .start < n .end
   pub band : Morning f n ⊎ Evening n
   pub long : (f .shortest ≤ n .end - n .start) × (n .end - n .start ≤ f .longest)
@@ -69,19 +71,19 @@ same-bits false false = (λ e. refl, λ e. refl)
 -- a notice by itself, rule by rule
 
 module _ (w : ℕ) (f : Figures) (n : Notice) where
-  pub period-iff : (outsidePeriod w n ≡ false) ↔ ((30 ≤ n .day) × (n .day < days w))
+  pub period-iff : (outsidePeriod (winterOf w) n ≡ false) ↔ ((30 ≤ n .day) × (n .day < days w))
   unfolding outsidePeriod
-  period-iff = (λ e. period-day w (n .day) .0 (not-false (inPeriod w (n .day)) e), λ r. rw (period-day w (n .day) .1 r))
+  period-iff = (λ e. period-day w (n .day) .0 (not-false (inPeriod (winterOf w) (n .day)) e), λ r. rw (period-day w (n .day) .1 r))
 
-  pub open-iff : (onExcludedDay w n ≡ false) ↔ (excluded w (n .day) ≡ false)
+  pub open-iff : (onExcludedDay (winterOf w) n ≡ false) ↔ (excluded (winterOf w) (n .day) ≡ false)
   unfolding onExcludedDay
   open-iff = (λ e. e, λ e. e)
 
-  pub week-iff : (barredWeekend f w n ≡ false) ↔ (f .weekends ≡ false → weekend w (n .day) ≡ false)
+  pub week-iff : (barredWeekend f (winterOf w) n ≡ false) ↔ (f .weekends ≡ false → weekend (winterOf w) (n .day) ≡ false)
   unfolding barredWeekend
   week-iff = (
-    λ h (e : f .weekends ≡ false). unless (not (f .weekends)) (weekend w (n .day)) h (rw e),
-    λ r. unless-test (not (f .weekends)) (weekend w (n .day)) (λ e. r (not-true (f .weekends) e)),
+    λ h (e : f .weekends ≡ false). unless (not (f .weekends)) (weekend (winterOf w) (n .day)) h (rw e),
+    λ r. unless-test (not (f .weekends)) (weekend (winterOf w) (n .day)) (λ e. r (not-true (f .weekends) e)),
   )
 
 -- a notice against the one before it, rule by rule

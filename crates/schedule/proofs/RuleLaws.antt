@@ -1,9 +1,19 @@
--- Laws of a rule that works on a callee's result, and of the profile that a number names: one for each way out.
+-- Laws of the rules that work on a callee's result, and of the profile that a number names: one for each way out.
 -- Assumes nothing.
-use Prim.Native.Nat.{ℕ, _+_}
+use Prim.Native.Nat.{ℕ, _+_, _<_}
+use mathlib.Core.Bool.{Bool, true, false, not, _&&_, true≢false}
 use mathlib.Core.List.{List}
-use mathlib.Core.Path.{_≡_}
+use mathlib.Core.Path.{_≡_, refl, sym, ap, _∙_}
+use native.Mathlib.Omega.{arith}
 use lib.Dec.{ltb}
+use borrow.Author.Tests.{ne-eqb, not-false}
+use Rattle.calendar.proofs.Promise.{facts-right, past-period}
+use Rattle.calendar.specs.WinterOf.{winterOf}
+use Rattle.laws.proofs.Refusals.{kept}
+use Rattle.calendar.specs.Days.{noDay, inPeriod}
+use Rattle.calendar.specs.Weekdays.{weekend}
+use Rattle.calendar.specs.declared.answers.Kind.{Kind}
+use Rattle.calendar.specs.declared.answers.Winter.{Winter}
 use Rattle.laws.specs.Answer.{Answer}
 use Rattle.laws.specs.Table.{refusalAt}
 use Rattle.notices.specs.Notices.{hoursOf}
@@ -13,17 +23,61 @@ use Rattle.notices.specs.declared.profiles.Figures.{Figures}
 use Rattle.notices.specs.declared.profiles.Named.the-variants.{Is, NoProfile}
 use Rattle.notices.specs.declared.profiles.Named.{Named}
 use Rattle.notices.specs.declared.profiles.Profile.{Profile}
-use Rattle.schedule.specs.ListCheck.{listAnswer, namedAnswer}
-use Rattle.schedule.specs.Rules.{overLimit}
+use Rattle.schedule.specs.ListCheck.{listAnswer, checkedIn, namedAnswer}
+use Rattle.schedule.specs.Rules.{outsidePeriod, onExcludedDay, barredWeekend, OnDay, sameBand, overLimit}
 use Rattle.schedule.specs.declared.rules.Sofar.{Sofar}
+
+-- the rules of the day that a notice is on, by what is told of it
+module _ (w : Winter) (n : Notice) (day : Kind) (on : OnDay w (n .day) day) where
+  pub outside-on : {b : Bool} → not (day .period) ≡ b → outsidePeriod w n ≡ b
+  unfolding outsidePeriod
+  outside-on e = rw (← on .period) e
+
+  module _ (inside : not (day .period) ≡ false) where
+    pub in-period : inPeriod w (n .day) ≡ true
+    in-period = sym (on .period) ∙ not-false (day .period) inside
+
+    pub excluded-on : {b : Bool} → day .excluded ≡ b → onExcludedDay w n ≡ b
+    unfolding onExcludedDay
+    excluded-on e = sym (on .open-day in-period) ∙ e
+
+-- rule 12, asked only where the profile has no weekends
+module _ (f : Figures) (w : Winter) (n : Notice) where
+  pub weekend-allowed : f .weekends ≡ true → false ≡ barredWeekend f w n
+  unfolding barredWeekend
+  weekend-allowed e = rw e
+
+  pub weekend-barred : {b : Bool} → f .weekends ≡ false → b ≡ weekend w (n .day) → b ≡ barredWeekend f w n
+  unfolding barredWeekend
+  weekend-barred e q = rw e q
+
+-- what is told of a day past the book
+pub past-on : (w : Winter) (d : ℕ) (k : Kind) → noDay w d ≡ true → k .period ≡ false → OnDay w d k
+past-on w d k e p =
+    let out = past-period w d e in
+    record {
+      period = p ∙ sym out;
+      open-day = λ i. absurd (true≢false (sym i ∙ out));
+      week = λ i. absurd (true≢false (sym i ∙ out));
+    }
+
+-- rule 16 of a later day
+pub later-day : (last n : Notice) → last .day < n .day → false ≡ sameBand last n
+unfolding sameBand
+later-day last n h = rw (ne-eqb (last .day) (n .day) (λ (e : last .day ≡ n .day). omega arith))
 
 pub limit-is : (f : Figures) (so : Sofar) (n : Notice) (h : ℕ) → h ≡ hoursOf n → ltb (f .hours) (so .hours + h) ≡ overLimit f so n
 unfolding overLimit
 limit-is f so n h e = rw e
 
-pub no-profile : (w q : ℕ) (l : List ℕ) (x : Named) → x ≡ named q → x ≡ NoProfile → refusalAt 5 0 ≡ namedAnswer w (named q) l
+pub no-profile : (w : Winter) (q : ℕ) (l : List ℕ) (x : Named) → x ≡ named q → x ≡ NoProfile → refusalAt 5 0 ≡ namedAnswer w (named q) l
 no-profile w q l x e n = rw (← e, n)
 
-pub of-profile : (w q : ℕ) (l : List ℕ) (x : Named) (p : Profile) (f : Figures) (a : Answer) → x ≡ named q → x ≡ Is p → f ≡ figuresOf p → a ≡ listAnswer w f l
-    → a ≡ namedAnswer w (named q) l
-of-profile w q l x p f a e n g r = rw (← e, n, ← g) r
+-- and for a winter's own facts the check by these is the one by the year
+pub checked-right : (y : ℕ) (p : Profile) (l : List ℕ) → checkedIn (winterOf y) p l ≡ listAnswer (winterOf y) (figuresOf p) l
+unfolding checkedIn
+checked-right y p l = sym (kept (refusalAt 1 0) (facts-right y) refl)
+
+pub of-profile : (y q : ℕ) (l : List ℕ) (x : Named) (p : Profile) (w : Winter) {a : Answer} → x ≡ named q → x ≡ Is p → w ≡ winterOf y → a ≡ checkedIn w p l
+    → a ≡ namedAnswer (winterOf y) (named q) l
+of-profile y q l x p w e n g r = rw (← e, n) (r ∙ ap (λ (w : Winter). checkedIn w p l) g ∙ checked-right y p l)

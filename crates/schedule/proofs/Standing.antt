@@ -5,8 +5,9 @@ use mathlib.Core.Bool.{false}
 use mathlib.Core.List.{List}
 use mathlib.Core.Logic.{_⊎_}
 use mathlib.Core.Path.{_≡_}
+use Rattle.calendar.specs.WinterOf.{winterOf}
 use Rattle.calendar.specs.Excluded.{excluded}
-use Rattle.calendar.specs.Winters.{days}
+use Rattle.dates.specs.Winters.{days}
 use Rattle.notices.specs.Notices.{countOf, noticeAt, hoursTo}
 use Rattle.notices.specs.declared.notices.Notice.{Notice}
 
@@ -18,7 +19,7 @@ InBand n = ((6 ≤ n .start) × (n .end ≤ 10)) ⊎ ((16 ≤ n .start) × (n .e
 pub record Stands (w : ℕ) (n : Notice) : Type 0 where
   pub from-december : 30 ≤ n .day
   pub in-book : n .day < days w
-  pub open-day : excluded w (n .day) ≡ false
+  pub open-day : excluded (winterOf w) (n .day) ≡ false
   pub some-hour : n .start < n .end
   pub in-band : InBand n
   pub short : n .end - n .start ≤ 4

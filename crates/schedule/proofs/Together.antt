@@ -10,7 +10,8 @@ use mathlib.Core.Path.{_≡_, refl, sym, ap, _∙_}
 use native.Mathlib.Nat.{eq-or-lt-of-le}
 use native.Mathlib.Omega.{arith}
 use borrow.Author.Tests.{lt-ltb, le-ltb}
-use Rattle.calendar.specs.Winters.{noWinter}
+use Rattle.calendar.specs.WinterOf.{winterOf}
+use Rattle.dates.specs.Winters.{noWinter}
 use Rattle.laws.proofs.Tables.{refuse-accepted}
 use Rattle.laws.specs.Answer.{Answer}
 use Rattle.laws.specs.Table.{accepted}
@@ -112,9 +113,9 @@ pub record LawfulBy (w q : ℕ) (l : List ℕ) : Type 0 where
 pub accepted-lawful : (w q : ℕ) (l : List ℕ) → checkAnswer w q l ≡ accepted → LawfulBy w q l
 unfolding checkAnswer
 accepted-lawful w q l e =
-    let p = refuse-accepted (noWinter w) 1 0 (namedAnswer w (named q) l) (omega arith) e in by (p .0) (named q) refl (p .1)
+    let p = refuse-accepted (noWinter w) 1 0 (namedAnswer (winterOf w) (named q) l) (omega arith) e in by (p .0) (named q) refl (p .1)
   where
-    by : noWinter w ≡ false → (x : Named) → named q ≡ x → namedAnswer w x l ≡ accepted → LawfulBy w q l
+    by : noWinter w ≡ false → (x : Named) → named q ≡ x → namedAnswer (winterOf w) x l ≡ accepted → LawfulBy w q l
     by v (Is p) n a = record { profile = p; number = n; lawful = list-lawful w (figuresOf p) l v a }
     by v NoProfile n a = let z : _≡_ {A = ℕ} 5 0 = ap (λ (a : Answer). a .number) a in absurd (omega arith)
 

@@ -9,6 +9,7 @@ use native.Mathlib.Numerals.{add-one}
 use native.Mathlib.Omega.{arith}
 use lib.Dec.{ltb, eqb}
 use borrow.Author.Tests.{ltb-false, eqb-true, not-false}
+use Rattle.calendar.specs.declared.answers.Winter.{Winter}
 use Rattle.laws.proofs.Guards.{neither}
 use Rattle.laws.proofs.Tables.{Numbered, NoneBroken, accepted-none, none-accepted, not-refused, else-stop, else-go, in-parts}
 use Rattle.laws.specs.Answer.{Answer}
@@ -26,17 +27,17 @@ use Rattle.schedule.specs.declared.rules.Sofar.{Sofar}
 
 -- a notice is accepted exactly when none of its rows is broken
 
-pub own-numbered : (w : ℕ) (f : Figures) (n : Notice) → Numbered (ownRows w f n)
+pub own-numbered : (w : Winter) (f : Figures) (n : Notice) → Numbered (ownRows w f n)
 unfolding ownRows
 own-numbered w f n = (omega arith, (omega arith, (omega arith, (omega arith, (omega arith, tt)))))
 
-notice-numbered : (w : ℕ) (f : Figures) (so : Sofar) (n : Notice) → Numbered (noticeRows w f so n)
+notice-numbered : (w : Winter) (f : Figures) (so : Sofar) (n : Notice) → Numbered (noticeRows w f so n)
 unfolding noticeRows ownRows listRows
 notice-numbered w f so n =
     (omega arith, (omega arith, (omega arith, (omega arith, (omega arith, (omega arith, (omega arith, (omega arith, tt))))))))
 
 -- the rules that a notice has passed, by name
-pub record Passed (w : ℕ) (f : Figures) (so : Sofar) (n : Notice) : Type 0 where
+pub record Passed (w : Winter) (f : Figures) (so : Sofar) (n : Notice) : Type 0 where
   pub period : outsidePeriod w n ≡ false
   pub open-day : onExcludedDay w n ≡ false
   pub week : barredWeekend f w n ≡ false
@@ -46,7 +47,7 @@ pub record Passed (w : ℕ) (f : Figures) (so : Sofar) (n : Notice) : Type 0 whe
   pub apart : sameBand (so .last) n ≡ false
   pub limit : overLimit f so n ≡ false
 
-module _ (w : ℕ) (f : Figures) (so : Sofar) (n : Notice) where
+module _ (w : Winter) (f : Figures) (so : Sofar) (n : Notice) where
   pub none-passed : NoneBroken (noticeRows w f so n) → Passed w f so n
   unfolding noticeRows ownRows listRows
   none-passed t =
@@ -78,14 +79,14 @@ module _ (w : ℕ) (f : Figures) (so : Sofar) (n : Notice) where
 
 -- the sum of a notice that is not refused fits
 
-module _ (w : ℕ) (f : Figures) (so : Sofar) (n : Notice) (ok : Sane f) (t : Passed w f so n) where
+module _ (w : Winter) (f : Figures) (so : Sofar) (n : Notice) (ok : Sane f) (t : Passed w f so n) where
   pub sum-fits : so .hours + hoursOf n ≤ 100
   unfolding overLimit
   sum-fits = omega (arith, ltb-false (f .hours) (so .hours + hoursOf n) (t .limit), ok .hours)
 
 -- the two parts of a notice's rules: its own first, and then those of the list
 
-module _ (w : ℕ) (f : Figures) (so : Sofar) (n : Notice) (k : ℕ) {a : Answer} (own : a ≡ firstOf k (ownRows w f n)) where
+module _ (w : Winter) (f : Figures) (so : Sofar) (n : Notice) (k : ℕ) {a : Answer} (own : a ≡ firstOf k (ownRows w f n)) where
   parts : noticeAnswer w f so n k ≡ orElse a (firstOf k (listRows f so n))
   unfolding noticeAnswer noticeRows
   parts = rw own (in-parts k (ownRows w f n) (listRows f so n) (own-numbered w f n))
@@ -98,7 +99,7 @@ module _ (w : ℕ) (f : Figures) (so : Sofar) (n : Notice) (k : ℕ) {a : Answer
 
 -- the walk by index
 
-module _ (w : ℕ) (f : Figures) (l : List ℕ) (n k : ℕ) where
+module _ (w : Winter) (f : Figures) (l : List ℕ) (n k : ℕ) where
   from-step : k < n → fromNotice w f l (n - k) k ≡ orElse (answerAt w f l k) (fromNotice w f l (n - (k + 1)) (k + 1))
   unfolding fromNotice
   from-step h = let e : n - k ≡ suc (n - (k + 1)) = omega arith in rw (e, add-one k)
@@ -124,19 +125,19 @@ sofar-next l k = rw (add-one k, sofar-hours l k, hours-next l k)
 
 -- the loop, over plain variables
 
-pub record Held (w : ℕ) (f : Figures) (l : List ℕ) (n : ℕ) (so : Sofar) (k : ℕ) : Type 0 where
+pub record Held (w : Winter) (f : Figures) (l : List ℕ) (n : ℕ) (so : Sofar) (k : ℕ) : Type 0 where
   pub within : k ≤ n
   pub small : so .hours ≤ 100
   pub same : so ≡ sofarAt l k
   pub rest : fromNotice w f l (n - k) k ≡ fromNotice w f l n 0
 
-pub held-start : (w : ℕ) (f : Figures) (l : List ℕ) (n : ℕ) (so : Sofar) → so ≡ nothingBefore → Held w f l n so 0
+pub held-start : (w : Winter) (f : Figures) (l : List ℕ) (n : ℕ) (so : Sofar) → so ≡ nothingBefore → Held w f l n so 0
 unfolding sofarAt
 held-start w f l n so e =
     let z : n - 0 ≡ n = omega arith in
     record { within = omega arith; small = rw e (omega arith); same = e; rest = rw z }
 
-module _ {w : ℕ} {f : Figures} {l : List ℕ} {n : ℕ} {so : Sofar} {k : ℕ} (h : Held w f l n so k) where
+module _ {w : Winter} {f : Figures} {l : List ℕ} {n : ℕ} {so : Sofar} {k : ℕ} (h : Held w f l n so k) where
   pub held-done : n ≤ k → accepted ≡ fromNotice w f l n 0
   held-done e = from-done w f l n k e ∙ h .rest
 

@@ -7,7 +7,10 @@ use mathlib.Core.Bool.{Bool, not, _||_}
 use mathlib.Core.List.{List, [], _∷_, _++_}
 use lib.Dec.{ltb, eqb}
 use lib.ListN.{length}
-use Rattle.calendar.specs.Winters.{noWinter}
+use Rattle.calendar.specs.Days.{wrongWinter}
+use Rattle.calendar.specs.WinterOf.{winterOf}
+use Rattle.calendar.specs.declared.answers.Winter.{Winter}
+use Rattle.dates.specs.Winters.{noWinter}
 use Rattle.laws.specs.Answer.{Answer, refuse}
 use Rattle.laws.specs.Table.{accepted, refusalAt, Row, row, firstOf, orElse}
 use Rattle.notices.specs.Hours.{badHours, badLength}
@@ -17,11 +20,12 @@ use Rattle.notices.specs.declared.notices.Notice.{Notice}
 use Rattle.notices.specs.declared.profiles.Figures.{Figures}
 use Rattle.notices.specs.declared.profiles.Named.the-variants.{Is, NoProfile}
 use Rattle.notices.specs.declared.profiles.Named.{Named}
+use Rattle.notices.specs.declared.profiles.Profile.{Profile}
 use Rattle.schedule.specs.Rules.{outsidePeriod, onExcludedDay, barredWeekend, startsBefore, sameBand, overLimit}
 use Rattle.schedule.specs.declared.rules.Sofar.{Sofar}
 
 -- the rules of a notice by itself
-unfoldable pub ownRows : ℕ → Figures → Notice → List Row
+unfoldable pub ownRows : Winter → Figures → Notice → List Row
 ownRows w f n =
     row 10 (outsidePeriod w n)
     ∷ row 11 (onExcludedDay w n)
@@ -39,10 +43,10 @@ listRows f so n =
     ∷ []
 
 -- all rules of a notice, in their order
-unfoldable pub noticeRows : ℕ → Figures → Sofar → Notice → List Row
+unfoldable pub noticeRows : Winter → Figures → Sofar → Notice → List Row
 noticeRows w f so n = ownRows w f n ++ listRows f so n
 
-unfoldable pub noticeAnswer : ℕ → Figures → Sofar → Notice → ℕ → Answer
+unfoldable pub noticeAnswer : Winter → Figures → Sofar → Notice → ℕ → Answer
 noticeAnswer w f so n k = firstOf k (noticeRows w f so n)
 
 -- what stands before a notice: before the first, none; before the next, this notice and the hours with it
@@ -56,11 +60,11 @@ unfoldable pub sofarAt : List ℕ → ℕ → Sofar
 sofarAt l zero = nothingBefore
 sofarAt l (suc k) = record { last = noticeAt l k; hours = hoursTo l (suc k) }
 
-unfoldable pub answerAt : ℕ → Figures → List ℕ → ℕ → Answer
+unfoldable pub answerAt : Winter → Figures → List ℕ → ℕ → Answer
 answerAt w f l k = noticeAnswer w f (sofarAt l k) (noticeAt l k) k
 
 -- the notices from index k on, of which there are `left`
-unfoldable pub fromNotice : ℕ → Figures → List ℕ → ℕ → ℕ → Answer
+unfoldable pub fromNotice : Winter → Figures → List ℕ → ℕ → ℕ → Answer
 fromNotice w f l zero k = accepted
 fromNotice w f l (suc left) k = orElse (answerAt w f l k) (fromNotice w f l left (suc k))
 
@@ -69,14 +73,18 @@ unfoldable pub badList : ℕ → Bool
 badList length = not (eqb (length % 3) 0) || ltb 300 length
 
 -- the list by a profile's figures
-unfoldable pub listAnswer : ℕ → Figures → List ℕ → Answer
+unfoldable pub listAnswer : Winter → Figures → List ℕ → Answer
 listAnswer w f l = refuse (badList (length l)) (refusalAt 4 0) (fromNotice w f l (countOf l) 0)
 
+-- the list in a winter under a profile; anything may be handed over as a winter's facts
+unfoldable pub checkedIn : Winter → Profile → List ℕ → Answer
+checkedIn w p l = refuse (wrongWinter w) (refusalAt 1 0) (listAnswer w (figuresOf p) l)
+
 -- "5: profile neither 1 nor 2"
-abbrev pub namedAnswer : ℕ → Named → List ℕ → Answer
+abbrev pub namedAnswer : Winter → Named → List ℕ → Answer
 namedAnswer w (Is p) l = listAnswer w (figuresOf p) l
 namedAnswer w NoProfile l = refusalAt 5 0
 
 -- "1: Y outside 2010..2098"
 unfoldable pub checkAnswer : ℕ → ℕ → List ℕ → Answer
-checkAnswer w q l = refuse (noWinter w) (refusalAt 1 0) (namedAnswer w (named q) l)
+checkAnswer y q l = refuse (noWinter y) (refusalAt 1 0) (namedAnswer (winterOf y) (named q) l)

@@ -1,11 +1,14 @@
 -- The rules of a notice, each as document 01's table of refusals has it: true where the number is given.
 -- Assumes nothing.
 use Prim.Native.Nat.{ℕ, _+_}
-use mathlib.Core.Bool.{Bool, not, Bool·beq, _&&_, _||_}
+use mathlib.Core.Bool.{Bool, true, not, Bool·beq, _&&_, _||_}
+use mathlib.Core.Path.{_≡_}
 use lib.Dec.{ltb, eqb}
 use Rattle.calendar.specs.Excluded.{excluded}
 use Rattle.calendar.specs.Weekdays.{weekend}
-use Rattle.calendar.specs.Winters.{inPeriod}
+use Rattle.calendar.specs.Days.{inPeriod}
+use Rattle.calendar.specs.declared.answers.Kind.{Kind}
+use Rattle.calendar.specs.declared.answers.Winter.{Winter}
 use Rattle.notices.specs.Notices.{hoursOf}
 use Rattle.notices.specs.Profiles.{eveningStart}
 use Rattle.notices.specs.declared.notices.Notice.{Notice}
@@ -13,15 +16,15 @@ use Rattle.notices.specs.declared.profiles.Figures.{Figures}
 use Rattle.schedule.specs.declared.rules.Sofar.{Sofar}
 
 -- "10: day outside the winter period"
-unfoldable pub outsidePeriod : ℕ → Notice → Bool
+unfoldable pub outsidePeriod : Winter → Notice → Bool
 outsidePeriod w n = not (inPeriod w (n .day))
 
 -- "11: excluded day"
-unfoldable pub onExcludedDay : ℕ → Notice → Bool
+unfoldable pub onExcludedDay : Winter → Notice → Bool
 onExcludedDay w n = excluded w (n .day)
 
 -- "12: weekend under profile 2", by the profile's figures: a weekend where it has none
-unfoldable pub barredWeekend : Figures → ℕ → Notice → Bool
+unfoldable pub barredWeekend : Figures → Winter → Notice → Bool
 barredWeekend f w n = not (f .weekends) && weekend w (n .day)
 
 -- "15: starts before the notice before it ends (earlier day, or same day and s below its e)"
@@ -35,3 +38,9 @@ sameBand last n = eqb (last .day) (n .day) && Bool·beq (ltb (last .start) eveni
 -- "18: total hours pass the winter's limit with this notice"
 unfoldable pub overLimit : Figures → Sofar → Notice → Bool
 overLimit f so n = ltb (f .hours) (so .hours + hoursOf n)
+
+-- what the private functions are told of a day: whether it is in the winter period, and if so whether it is excluded and a weekend day
+pub record OnDay (w : Winter) (d : ℕ) (k : Kind) : Type 0 where
+  pub period : k .period ≡ inPeriod w d
+  pub open-day : inPeriod w d ≡ true → k .excluded ≡ excluded w d
+  pub week : inPeriod w d ≡ true → k .weekend ≡ weekend w d

@@ -5,6 +5,7 @@ mod verdicts;
 
 pub use list_check::bad_list;
 pub use list_check::check;
+pub use list_check::check_in;
 pub use verdicts::Rule;
 pub use verdicts::Verdict;
 pub use verdicts::number_of;

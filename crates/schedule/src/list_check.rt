@@ -1,38 +1,43 @@
 // The list check: whether the notices of a list can stand together under a profile.
 ghost use mathlib.Core.Path.{_≡_};
-ghost use Prim.Native.Nat.{_≤_};
+ghost use mathlib.Core.Bool.{false};
+ghost use Rattle.calendar.specs.Days.{wrongWinter};
+ghost use Prim.Native.Nat.{_≤_, _<_};
 ghost use lib.ListN.{length};
 ghost use Rattle.laws.specs.Table.{firstOf};
-ghost use Rattle.notices.specs.Notices.{hoursOf};
+ghost use Rattle.notices.specs.Notices.{countOf, noticeAt, hoursOf};
 ghost use Rattle.notices.specs.Sane.{Sane};
 ghost use Rattle.schedule.specs.Verdicts.{verdictPaper};
-ghost use Rattle.schedule.specs.ListCheck.{ownRows, listRows, noticeAnswer, nothingBefore, afterNotice, fromNotice, badList, listAnswer, checkAnswer};
+ghost use Rattle.schedule.specs.ListCheck.{ownRows, listRows, noticeAnswer, nothingBefore, afterNotice, fromNotice, badList, checkedIn, checkAnswer};
 use crate::rules::Sofar;
 use crate::rules::barred_weekend;
-use crate::rules::excluded_day;
-use crate::rules::outside_period;
+use crate::rules::kind_on;
 use crate::rules::over_limit;
 use crate::rules::same_band;
 use crate::rules::starts_before;
 use crate::verdicts::Rule;
 use crate::verdicts::Verdict;
 use crate::verdicts::is_refused;
-use calendar::Days;
+use calendar::Known;
+use calendar::Winter;
 use notices::Figures;
 use notices::Named;
 use notices::Notice;
+use notices::Profile;
 
 // Rules 10 to 14: the notice at place k by itself.
-fn own_verdict(winter: u32, f: Figures, n: Notice, k: u32) -> Verdict
-    ensures { λ r. ⌜ verdictPaper r ≡ firstOf k (ownRows winter f n) ⌝ }
+fn own_verdict(w: Winter, f: Figures, n: Notice, k: u32) -> Verdict
+    requires { ⌜ wrongWinter w ≡ false ⌝ }
+    ensures { λ r. ⌜ verdictPaper r ≡ firstOf k (ownRows w f n) ⌝ }
 {
-    if outside_period(winter, n) {
+    let day = kind_on(w, n);
+    if !day.period {
         return Verdict::Refused(Rule::OutsidePeriod, k);
     }
-    if excluded_day(winter, n) {
+    if day.excluded {
         return Verdict::Refused(Rule::ExcludedDay, k);
     }
-    if barred_weekend(f, winter, n) {
+    if barred_weekend(f, w, n) {
         return Verdict::Refused(Rule::Weekend, k);
     }
     if notices::bad_hours(f, n) {
@@ -62,10 +67,11 @@ fn list_verdict(f: Figures, so: Sofar, n: Notice, k: u32) -> Verdict
 }
 
 // All rules of the notice at place k.
-fn notice_verdict(winter: u32, f: Figures, so: Sofar, n: Notice, k: u32) -> Verdict
-    ensures { λ r. ⌜ verdictPaper r ≡ noticeAnswer winter f so n k ⌝ }
+fn notice_verdict(w: Winter, f: Figures, so: Sofar, n: Notice, k: u32) -> Verdict
+    requires { ⌜ wrongWinter w ≡ false ⌝ }
+    ensures { λ r. ⌜ verdictPaper r ≡ noticeAnswer w f so n k ⌝ }
 {
-    let own = own_verdict(winter, f, n, k);
+    let own = own_verdict(w, f, n, k);
     if is_refused(own) {
         return own;
     }
@@ -96,16 +102,28 @@ fn after_notice(so: Sofar, n: Notice) -> Sofar
     }
 }
 
+// The notice at index k, which the list has: in the walk nothing is asked twice.
+fn notice_in(list: &[u32], k: usize) -> Notice
+    requires { ⌜ k < countOf (now list) ⌝ }
+    ensures { λ r. ⌜ r ≡ noticeAt (now (list .entry)) k ⌝ }
+{
+    let at = k * 3;
+    let day = list[at];
+    let start = list[at + 1];
+    let end = list[at + 2];
+    Notice { day, start, end }
+}
+
 // The first refusal among the notices of a list.
-fn check_notices(winter: u32, f: Figures, list: &[u32], count: usize) -> Verdict
-    requires { ⌜ Sane f × (count ≤ 100) ⌝ }
-    ensures { λ r. ⌜ verdictPaper r ≡ fromNotice winter f (now (list .entry)) count 0 ⌝ }
+fn check_notices(w: Winter, f: Figures, list: &[u32], count: usize) -> Verdict
+    requires { ⌜ (wrongWinter w ≡ false) × Sane f × (count ≤ 100) × (count ≤ countOf (now list)) ⌝ }
+    ensures { λ r. ⌜ verdictPaper r ≡ fromNotice w f (now (list .entry)) count 0 ⌝ }
 {
     let mut so = nothing_before();
     let mut k: usize = 0;
     while k < count {
-        let n = notices::notice_at(list, k);
-        let verdict = notice_verdict(winter, f, so, n, k as u32);
+        let n = notice_in(list, k);
+        let verdict = notice_verdict(w, f, so, n, k as u32);
         if is_refused(verdict) {
             return verdict;
         }
@@ -123,29 +141,31 @@ pub fn bad_list(length: usize) -> bool
     (length % 3 != 0) | (300 < length)
 }
 
-// The list by a profile's figures.
-fn check_list(winter: u32, f: Figures, list: &[u32]) -> Verdict
-    requires { ⌜ Sane f ⌝ }
-    ensures { λ r. ⌜ verdictPaper r ≡ listAnswer winter f (now (list .entry)) ⌝ }
+// Whether a list of notices stands in a winter whose facts are at hand, or the first rule that it breaks.
+pub fn check_in(w: Winter, p: Profile, list: &[u32]) -> Verdict
+    ensures { λ r. ⌜ verdictPaper r ≡ checkedIn w p (now (list .entry)) ⌝ }
 {
+    if calendar::wrong_winter(w) {
+        return Verdict::Refused(Rule::NoWinter, 0);
+    }
     let length = list.len();
     if bad_list(length) {
         return Verdict::Refused(Rule::BadList, 0);
     }
-    check_notices(winter, f, list, length / 3)
+    check_notices(w, p.figures(), list, length / 3)
 }
 
 // Whether a list of notices stands under a profile in a winter, or the first rule that it breaks.
 pub fn check(winter: u32, profile: u32, list: &[u32]) -> Verdict
     ensures { λ r. ⌜ verdictPaper r ≡ checkAnswer winter profile (now (list .entry)) ⌝ }
 {
-    let days = calendar::winter_days(winter);
-    let Days::Are(_) = days else {
+    let known = calendar::winter_of(winter);
+    let Known::Is(w) = known else {
         return Verdict::Refused(Rule::NoWinter, 0);
     };
     let named = notices::profile_named(profile);
     let Named::Is(p) = named else {
         return Verdict::Refused(Rule::NoProfile, 0);
     };
-    check_list(winter, p.figures(), list)
+    check_in(w, p, list)
 }

@@ -1,6 +1,11 @@
 // The rules of a notice, each a fault test: true where the rule is broken. They go by the figures and never by the profile.
 ghost use mathlib.Core.Path.{_≡_};
-ghost use Rattle.schedule.specs.Rules.{outsidePeriod, onExcludedDay, barredWeekend, startsBefore, sameBand, overLimit};
+ghost use mathlib.Core.Bool.{true, false};
+ghost use Rattle.calendar.specs.Days.{wrongWinter, inPeriod};
+ghost use Rattle.schedule.specs.Rules.{OnDay, barredWeekend, startsBefore, sameBand, overLimit};
+use calendar::DayKind;
+use calendar::Kind;
+use calendar::Winter;
 use notices::Figures;
 use notices::Notice;
 use notices::Profile;
@@ -11,28 +16,39 @@ pub struct Sofar {
     pub hours: u32,
 }
 
-// 10: the day is outside the winter period.
-pub(crate) fn outside_period(winter: u32, n: Notice) -> bool
-    ensures { λ r. ⌜ r ≡ outsidePeriod winter n ⌝ }
+// What kind of day a notice is on; a day past the book is in no winter period.
+pub(crate) fn kind_on(w: Winter, n: Notice) -> Kind
+    requires { ⌜ wrongWinter w ≡ false ⌝ }
+    ensures { λ r. ⌜ OnDay w (n .day) r ⌝ }
 {
-    !calendar::in_period(winter, n.day)
+    match calendar::kind_of(w, n.day) {
+        DayKind::Is(kind) => kind,
+        DayKind::NoWinter => no_kind(),
+        DayKind::NoDay => no_kind(),
+    }
 }
 
-// 11: an excluded day.
-pub(crate) fn excluded_day(winter: u32, n: Notice) -> bool
-    ensures { λ r. ⌜ r ≡ onExcludedDay winter n ⌝ }
+// The kind of a day past the book.
+fn no_kind() -> Kind
+    ensures { λ r. ⌜ r .period ≡ false ⌝ }
 {
-    calendar::is_excluded(winter, n.day)
+    Kind {
+        period: false,
+        weekend: false,
+        excluded: false,
+    }
 }
 
-// 12: a weekend day, under a profile that has none.
-pub(crate) fn barred_weekend(f: Figures, winter: u32, n: Notice) -> bool
-    ensures { λ r. ⌜ r ≡ barredWeekend f winter n ⌝ }
+// 12: a weekend day, under a profile that has none; of a day in the winter period. Where the profile has weekends nothing is asked.
+pub(crate) fn barred_weekend(f: Figures, w: Winter, n: Notice) -> bool
+    requires { ⌜ wrongWinter w ≡ false ⌝ }
+    ensures { λ r. ⌜ (inPeriod w (n .day) ≡ true → r ≡ barredWeekend f w n) ⌝ }
 {
     if f.weekends {
         return false;
     }
-    calendar::is_weekend(winter, n.day)
+    let day = kind_on(w, n);
+    day.weekend
 }
 
 // 15: it starts before the notice before it ends.
@@ -45,14 +61,15 @@ pub(crate) fn starts_before(last: Notice, n: Notice) -> bool
     (n.day < last.day) | (n.start < last.end)
 }
 
-// 16: the same day and band as the notice before it. The evening band starts where the second half of the day's hours does.
+// 16: the same day and band as the notice before it. The evening band starts where the second half of the day's hours does. On a later
+// day, as most are, there is nothing more to ask.
 pub(crate) fn same_band(last: Notice, n: Notice) -> bool
     ensures { λ r. ⌜ r ≡ sameBand last n ⌝ }
 {
-    if last.day != n.day {
+    if last.day < n.day {
         return false;
     }
-    (last.start < Profile::EVENING) == (n.start < Profile::EVENING)
+    (last.day == n.day) & ((last.start < Profile::EVENING) == (n.start < Profile::EVENING))
 }
 
 // 18: the total hours pass the winter's limit with this notice. In 64 bits no sum wraps.

@@ -9,8 +9,8 @@ use native.Mathlib.Omega.{arith}
 use lib.ListN.{length, take, drop, replicate, length-append, length-replicate}
 use lib.Seq.{sets}
 use borrow.Author.Tests.{eq-eqb, ne-eqb, lt-ltb, le-ltb}
-use Rattle.calendar.proofs.Promise.{days-two}
-use Rattle.calendar.specs.Winters.{noWinter, days}
+use Rattle.dates.proofs.Promise.{days-two}
+use Rattle.dates.specs.Winters.{noWinter, days}
 use Rattle.energy.specs.Readings.{missingMark}
 use Rattle.form.proofs.Formed.{book-once}
 use Rattle.form.specs.Form.{formOf}

@@ -9,7 +9,8 @@ use mathlib.Core.Path.{_≡_, refl, ap, _∙_}
 use lib.Dec.{eqb}
 use lib.ListN.{length, replicate, length-replicate}
 use borrow.Author.Tests.{eq-eqb, le-ltb}
-use Rattle.calendar.specs.Winters.{noWinter, days}
+use Rattle.calendar.specs.WinterOf.{winterOf}
+use Rattle.dates.specs.Winters.{noWinter, days}
 use Rattle.energy.specs.Line.{eventAnswer}
 use Rattle.event_hours.specs.Days.{masksOf}
 use Rattle.form.proofs.Converse.{Held, form-written}
@@ -114,7 +115,7 @@ module _ (w p : ℕ) (book l : List ℕ) (ok : settlement w book p l (roomFor l)
 
   -- DEMAND 2 and DEMAND 3 of the numbers that are printed
   pub printed-answer : (k : ℕ) → k < countOf l
-      → eventAnswer w book (masksOf l) (noticeAt l k) ≡ given (codeIn lines k ∷ placeIn lines k ∷ energyIn lines k ∷ [])
+      → eventAnswer (winterOf w) book (masksOf l) (noticeAt l k) ≡ given (codeIn lines k ∷ placeIn lines k ∷ energyIn lines k ∷ [])
   printed-answer = line-is-answer w p book l room accepted
 
   pub printed-run : (i k : ℕ) → i + k ≤ countOf l → Near (centParts * runOf (centsIn lines) i k) (exactWorth p (runOf (energyIn lines) i k)) centParts

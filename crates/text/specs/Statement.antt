@@ -6,7 +6,7 @@ use mathlib.Core.Bool.{Bool, cond}
 use mathlib.Core.List.{List, _++_}
 use lib.Dec.{ltb, eqb}
 use lib.ListN.{length, drop, replicate}
-use Rattle.calendar.specs.Winters.{noWinter, days}
+use Rattle.dates.specs.Winters.{noWinter, days}
 use Rattle.energy.specs.Readings.{missingMark}
 use Rattle.form.specs.Form.{formOf}
 use Rattle.form.specs.Said.{eventsOf, bookOf}

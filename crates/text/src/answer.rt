@@ -3,13 +3,13 @@ ghost use mathlib.Core.Bool.{false};
 ghost use mathlib.Core.Path.{_≡_};
 ghost use Prim.Native.Nat.{_≤_};
 ghost use lib.ListN.{length};
-ghost use Rattle.calendar.specs.Winters.{noWinter};
+ghost use Rattle.dates.specs.Winters.{noWinter};
 ghost use Rattle.form.specs.Form.{formOf};
 ghost use Rattle.form.specs.declared.whole.Form.the-variants as form;
 ghost use Rattle.text.specs.Statement.{answerRoom, startsWith, noReadings, formBytes, answered, answeredIn};
 use crate::settled::print_notices;
 use crate::settled::refuse;
-use calendar::Days;
+use dates::Days;
 use form::Form;
 use form::Shape;
 
@@ -32,7 +32,7 @@ fn print_formed(text: &[u8], shape: Shape, out: &mut [u8]) -> usize
     ensures { λ r. ⌜ r ≡ length (formBytes (now (text .entry)) (form.Whole shape)) ⌝ }
     ensures { λ _. ⌜ now (out .exit) ≡ startsWith (formBytes (now (text .entry)) (form.Whole shape)) (now (out .entry)) ⌝ }
 {
-    let Days::Are(days) = calendar::winter_days(shape.winter) else {
+    let Days::Are(days) = dates::winter_days(shape.winter) else {
         return refuse(1, 0, out);
     };
     let line = shape.misplaced;

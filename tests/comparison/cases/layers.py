@@ -6,13 +6,15 @@ the second program's Query.
 """
 
 import re
+import struct
 from typing import NamedTuple
 
+from cases import calls
 from common.c_programs import CROSS_RUN, driver
 from common.harness import Failure, run
 from second import energies, notices, winters
 
-CALENDAR, SCHEDULE, ENERGY = 1, 2, 3
+CALENDAR, HOURS, ENERGY = 1, 2, 3
 
 
 class ListQuery(NamedTuple):
@@ -31,7 +33,7 @@ def written(groups):
 
 def ask(layer, groups):
     """The lines that the program prints for these queries on a layer."""
-    program = driver("layers", crates=("probe",))
+    program = driver("layers", crate="probe")
     printed = run(CROSS_RUN, program, input=written([(layer,), *groups])).stdout
     *lines, rest = printed.decode("ascii", "backslashreplace").split("\n")
     if rest:
@@ -42,23 +44,25 @@ def ask(layer, groups):
 # What both programs say.
 
 
-def line_of_day(w, a, b):
-    """The second program's line on the calendar, with what its list check says of day a."""
-    checked = [notices.list_check(w, profile, (a, 6, 9))[0] for profile in notices.PROFILES]
-    return f"{winters.line(w, a, b)} check={winters.joined(checked)}"
-
-
 def both_of_days(queries):
     """To queries on the calendar."""
-    return ask(CALENDAR, queries), [line_of_day(*query) for query in queries]
+    return ask(CALENDAR, queries), [winters.line(*query) for query in queries]
 
 
 def both_of_lists(queries):
-    """To list checks."""
-    groups = []
-    for winter, profile, numbers in queries:
-        groups += [(winter, profile, len(numbers)), numbers]
-    return ask(SCHEDULE, groups), [notices.line(*query) for query in queries]
+    """To list checks: the verdict is that of the call for C, and the event hours of an accepted
+    list follow it."""
+    given = calls.ask([
+        calls.Check(winter, profile, struct.pack(f"<{len(numbers)}I", *numbers))
+        for winter, profile, numbers in queries
+    ])
+    accepted = [query.numbers for query, one in zip(queries, given) if one.answer == 0]
+    hours = iter(ask(HOURS, [group for numbers in accepted for group in ((len(numbers),), numbers)]))
+    said = [
+        f"{one.number()},{one.place()}" + (f" {next(hours)}" if one.answer == 0 else "")
+        for one in given
+    ]
+    return said, [notices.line(*query) for query in queries]
 
 
 def ask_events(queries):

@@ -6,12 +6,11 @@
  *
  * 1, the calendar: three numbers w, a and b. A line has these and then, as NAME=number,values, the
  * answer of each call: on winter or year w, on day a, on the date of month a and day b, and on day
- * a's part of a book of b numbers; last the refusal numbers of the list check under both profiles
- * for the list of one notice, on day a from 6 to 9.
+ * a's part of a book of b numbers.
  *
- * 2, the list check: winter, profile and count, then the numbers of a list. A line has the number
- * and the place of the refusal; of an accepted list also the event hours of each day that has any,
- * as DAY:MASK, and each notice's event as it comes back from them, as START+LENGTH.
+ * 2, the event hours of a list: how many numbers it has, and these. A line has the event hours of
+ * each day that has any, as DAY:MASK, and each notice's event as it comes back from them, as
+ * START+LENGTH.
  *
  * 3, the energy of an event: winter, count, length, seed, low, spread, changes, day, start and end,
  * then the numbers of a list, then pairs of a place and a value, which are set in the book that is
@@ -23,10 +22,9 @@
 #include <stdio.h>
 #include <stdlib.h>
 
-#include "ibisladder.h"
 #include "probe.h"
 
-enum { DAYS = 152, HOURS = 24, LONGEST_BOOK = 3648, ANY_BOOK = 3672, MOST_NUMBERS = 400 };
+enum { DAYS = 152, LONGEST_BOOK = 3648, ANY_BOOK = 3672, MOST_NUMBERS = 400 };
 
 static uint32_t list[MOST_NUMBERS], pairs[MOST_NUMBERS], book[ANY_BOOK];
 
@@ -62,15 +60,6 @@ static void read_rest(uint32_t *numbers, size_t count)
         give_up("a query is cut short");
 }
 
-/* The delivered list check, on the numbers of a list as bytes. */
-static uint32_t check(uint32_t winter, uint32_t profile, const uint32_t *numbers, size_t count)
-{
-    static uint8_t bytes[4 * MOST_NUMBERS];
-    for (size_t i = 0; i < 4 * count; i++)
-        bytes[i] = (uint8_t)(numbers[i / 4] >> 8 * (i % 4));
-    return ibisladder_check(winter, profile, bytes, 4 * count);
-}
-
 /* The calendar. */
 
 static uint32_t refusal(uint64_t answer)
@@ -78,30 +67,27 @@ static uint32_t refusal(uint64_t answer)
     return (uint32_t)(answer >> 32);
 }
 
-/* The value of an answer that is not refused, or its two. */
-
-static void put_value(uint64_t answer)
+static void put_answer(const char *name, uint64_t answer)
 {
+    printf(" %s=%" PRIu32, name, refusal(answer));
     if (refusal(answer) == 0)
         printf(",%" PRIu32, (uint32_t)answer);
 }
 
-static void put_values(uint64_t answer)
+/* An answer with two values. */
+static void put_pair(const char *name, uint64_t answer)
 {
+    printf(" %s=%" PRIu32, name, refusal(answer));
     if (refusal(answer) == 0)
-        printf(",%" PRIu32 ",%" PRIu32, (uint32_t)answer >> 16, (uint32_t)answer & 65535);
+        printf(",%" PRIu32 ",%" PRIu32, (uint32_t)answer >> 16, (uint32_t)answer & 0xFFFF);
 }
 
-static void put_answer(const char *name, uint64_t answer)
+/* In the winter period, a weekend day, excluded. */
+static void put_kind(uint64_t answer)
 {
-    printf(" %s=%" PRIu32, name, refusal(answer));
-    put_value(answer);
-}
-
-static void put_date(const char *name, uint64_t answer)
-{
-    printf(" %s=%" PRIu32, name, refusal(answer));
-    put_values(answer);
+    printf(" kind=%" PRIu32, refusal(answer));
+    if (refusal(answer) == 0)
+        printf(",%d,%d,%d", (int)(answer >> 2 & 1), (int)(answer >> 1 & 1), (int)(answer & 1));
 }
 
 /* How many readings a day's part has, with the first and the last. */
@@ -114,14 +100,6 @@ static void put_part(uint32_t winter, size_t numbers, uint32_t day)
                probe_part_reading(winter, book, numbers, day, length - 1));
 }
 
-/* What the list check says of the day, under both profiles. */
-static void put_check(uint32_t winter, uint32_t day)
-{
-    const uint32_t notice[3] = {day, 6, 9};
-    printf(" check=%" PRIu32 ",%" PRIu32, ibisladder_number(check(winter, 1, notice, 3)),
-           ibisladder_number(check(winter, 2, notice, 3)));
-}
-
 static void answer_days(void)
 {
     uint32_t query[3];
@@ -131,50 +109,43 @@ static void answer_days(void)
         uint32_t w = query[0], a = query[1], b = query[2];
         printf("%" PRIu32 ",%" PRIu32 ",%" PRIu32, w, a, b);
         put_answer("days", probe_days(w));
-        put_date("easter", probe_easter(w));
+        put_pair("easter", probe_easter(w));
         put_answer("weekday", probe_weekday(w, a));
-        put_answer("weekend", probe_weekend(w, a));
-        put_answer("excluded", probe_excluded(w, a));
-        put_date("date", probe_date(w, a));
+        put_kind(probe_kind(w, a));
+        put_pair("date", probe_date(w, a));
         put_answer("book_day", probe_book_day(w, a, b));
         put_part(w, b < LONGEST_BOOK ? b : LONGEST_BOOK, a);
-        put_check(w, a);
         putchar('\n');
     }
 }
 
-/* The list check. */
+/* The event hours. */
 
-static void put_events(size_t numbers)
+static void put_masks(size_t numbers)
 {
-    uint32_t masks[DAYS];
     const char *comma = "";
-    printf(" masks=");
+    printf("masks=");
     for (size_t day = 0; day < DAYS; day++) {
-        masks[day] = probe_mask(list, numbers, day);
-        if (masks[day] != 0) {
-            printf("%s%zu:%" PRIu32, comma, day, masks[day]);
+        uint32_t mask = probe_mask(list, numbers, day);
+        if (mask != 0) {
+            printf("%s%zu:%" PRIu32, comma, day, mask);
             comma = ",";
         }
-    }
-    printf(" events=");
-    for (size_t i = 0; i + 2 < numbers; i += 3) {
-        uint32_t mask = list[i] < DAYS ? masks[list[i]] : 0;
-        uint32_t own = probe_own_hours(mask, list[i + 1]);
-        printf("%s%" PRIu32 "+%" PRIu32, i > 0 ? "," : "", probe_start(own), probe_length(own));
     }
 }
 
 static void answer_lists(void)
 {
-    uint32_t query[3];
-    while (read_numbers(query, 3)) {
-        size_t numbers = query[2];
+    uint32_t numbers;
+    while (read_numbers(&numbers, 1)) {
         read_rest(list, numbers);
-        uint32_t answer = check(query[0], query[1], list, numbers);
-        printf("%" PRIu32 ",%" PRIu32, ibisladder_number(answer), ibisladder_place(answer));
-        if (ibisladder_number(answer) == 0)
-            put_events(numbers);
+        put_masks(numbers);
+        printf(" events=");
+        for (size_t i = 0; i + 2 < numbers; i += 3) {
+            uint32_t start = probe_event_start(list, numbers, list[i], list[i + 1]);
+            uint32_t end = probe_event_end(list, numbers, list[i], list[i + 1]);
+            printf("%s%" PRIu32 "+%" PRIu32, i > 0 ? "," : "", start, end - start);
+        }
         putchar('\n');
     }
 }
@@ -209,9 +180,8 @@ static void answer_events(void)
         make_book(query);
         uint64_t fault = probe_event_fault(winter, book, length, list, numbers, day, start, end);
         printf("%" PRIu32, refusal(fault));
-        put_values(fault);
         if (refusal(fault) == 0)
-            printf(",%" PRIu64,
+            printf(",%" PRIu32 ",%" PRIu32 ",%" PRIu64, (uint32_t)fault >> 16, (uint32_t)fault & 0xFFFF,
                    probe_event_energy(winter, book, length, list, numbers, day, start, end));
         putchar('\n');
     }

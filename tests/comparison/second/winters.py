@@ -100,14 +100,14 @@ def weekday(winter, day):
     return told_of_day(winter, day, lambda on: (on.isoweekday() % 7,))
 
 
-def weekend(winter, day):
-    """1 for a Saturday or a Sunday, else 0."""
-    return told_of_day(winter, day, lambda on: (int(is_weekend(on)),))
-
-
-def excluded(winter, day):
-    """1 for one of the "excluded days (document 000)", else 0."""
-    return told_of_day(winter, day, lambda on: (int(on in excluded_dates(winter)),))
+def kind(winter, day):
+    """Whether a day is in the winter period, from 1 December on, a Saturday or a Sunday, and one
+    of the excluded days."""
+    return told_of_day(winter, day, lambda on: (
+        int(on >= date(winter, 12, 1)),
+        int(is_weekend(on)),
+        int(on in excluded_dates(winter)),
+    ))
 
 
 def date_of_day(winter, day):
@@ -158,8 +158,7 @@ def line(w, a, b):
         "days": numbered(days(w)),
         "easter": numbered(easter(w)),
         "weekday": numbered(weekday(w, a)),
-        "weekend": numbered(weekend(w, a)),
-        "excluded": numbered(excluded(w, a)),
+        "kind": numbered(kind(w, a)),
         "date": numbered(date_of_day(w, a)),
         "book_day": numbered(book_day(w, a, b)),
         "readings": printed_part(readings(w, lent, a)),

@@ -7,7 +7,7 @@ use native.Mathlib.Omega.{arith}
 use lib.ListN.{drop}
 use borrow.Author.Needs.{needs}
 use Rattle.calendar.specs.Excluded.{among, fixedDays}
-use Rattle.calendar.proofs.ExcludedLaws.{among-found, among-skip}
+use Rattle.calendar.proofs.ExcludedLaws.{outside-fixed, among-found, among-skip}
 use Rattle.calendar.proofs.excluded.is_fixed.Statement.{statement}
 use Rattle.calendar.proofs.excluded.is_fixed.Tie as tie
 
@@ -17,18 +17,21 @@ Inv-loop day i₀ i = (i ≤ 6) × (among day (drop i fixedDays) ≡ among day f
 abbrev μ-loop : tie.MeasureT-loop
 μ-loop day i₀ i = 6 - i
 
+returns : tie.Need-returns Inv-loop μ-loop
+returns c = outside-fixed _ (c .if1 .taken)
+
 loop-holds : tie.Need-loop-holds Inv-loop μ-loop
 loop-holds c = search needs
 
-mul-if1 : tie.Need-mul-if1 Inv-loop μ-loop
-mul-if1 c = search needs
+mul-if2 : tie.Need-mul-if2 Inv-loop μ-loop
+mul-if2 c = search needs
 
-array-read-if1 : tie.Need-array-read-if1 Inv-loop μ-loop
-array-read-if1 c = search needs
+array-read-if2 : tie.Need-array-read-if2 Inv-loop μ-loop
+array-read-if2 c = search needs
 
-returns : tie.Need-returns Inv-loop μ-loop
-returns c =
-    sym (among-found (c .before .before .before .args .day) fixedDays (c .before .before .loop .i) (c .before .loop-test .taken) (c .if1 .taken))
+returns-2 : tie.Need-returns-2 Inv-loop μ-loop
+returns-2 c =
+    sym (among-found (c .before .before .before .before .args .day) fixedDays (c .before .before .loop .i) (c .before .loop-test .taken) (c .if2 .taken))
     ∙ c .before .before .loop .inv .1
 
 add-i : tie.Need-add-i Inv-loop μ-loop
@@ -40,15 +43,15 @@ loop-less c = search needs
 loop-again : tie.Need-loop-again Inv-loop μ-loop
 loop-again c = (
   search needs,
-  sym (among-skip (c .before .before .before .args .day) fixedDays (c .before .before .loop .i) (c .before .loop-test .taken) (c .if1 .left))
+  sym (among-skip (c .before .before .before .before .args .day) fixedDays (c .before .before .loop .i) (c .before .loop-test .taken) (c .if2 .left))
       ∙ c .before .before .loop .inv .1,
 )
 
-returns-2 : tie.Need-returns-2 Inv-loop μ-loop
+returns-3 : tie.Need-returns-3 Inv-loop μ-loop
 unfolding among
-returns-2 c =
+returns-3 c =
     let e : c .before .loop .i ≡ 6 = omega arith in
-    sym (ap (λ (k : ℕ). among (c .before .before .args .day) (drop k fixedDays)) e) ∙ c .before .loop .inv .1
+    sym (ap (λ (k : ℕ). among (c .before .before .before .args .day) (drop k fixedDays)) e) ∙ c .before .loop .inv .1
 
 pub is-fixed-spec : {M : Type 1} → statement M
 is-fixed-spec =
@@ -56,11 +59,12 @@ is-fixed-spec =
     (tie.spec
     Inv-loop
     μ-loop
-    loop-holds
-    mul-if1
-    array-read-if1
     returns
+    loop-holds
+    mul-if2
+    array-read-if2
+    returns-2
     add-i
     loop-less
     loop-again
-    returns-2)
+    returns-3)

@@ -1,38 +1,49 @@
 -- `weekday_of` answers 1 for no winter, then 10 for no book day, else the weekday.
 -- Assumes nothing.
 use borrow.Author.Needs.{needs}
-use Rattle.laws.proofs.Guards.{found}
-use Rattle.laws.proofs.Refusals.{refused, kept}
-use Rattle.calendar.specs.Answers.{ofDay}
+use Rattle.laws.proofs.Refusals.{refused}
+use Rattle.calendar.specs.Answers.{weekdayOf}
+use Rattle.calendar.proofs.FactLaws.{no-weekday, weekday-given}
+use Rattle.calendar.proofs.OneOutcome.{no-winter-known, winter-known}
 use Rattle.calendar.proofs.weekdays.weekday_of.Statement.{statement}
 use Rattle.calendar.proofs.weekdays.weekday_of.Tie as tie
 
-no-winter-requires : tie.Need-no-winter-requires
-no-winter-requires c κs = search needs
+winter-of-requires : tie.Need-winter-of-requires
+winter-of-requires c κs = search needs
+
+enum-known-known : tie.Need-enum-known-known
+enum-known-known c = search needs
+
+enum-told : tie.Need-enum-told
+enum-told c = search needs
 
 returns : tie.Need-returns
-unfolding ofDay
-returns c = refused _ _ (found (c .before .no-winter .ensures) (c .if1 .taken))
-
-no-day-requires : tie.Need-no-day-requires
-no-day-requires c κs = search needs
+unfolding weekdayOf
+returns c = refused _ _ (no-winter-known _ _ (c .enum-told .given .1) (c .before .before .winter-of .ensures))
 
 returns-2 : tie.Need-returns-2
-unfolding ofDay
 returns-2 c =
-    kept _ (found (c .before .before .before .no-winter .ensures) (c .before .before .if1 .left))
-    (refused _ _ (found (c .before .no-day .ensures) (c .if2 .taken)))
+    let known = c .before .before .before in
+    let is = winter-known _ _ _ (known .known .given .1) (known .before .before .winter-of .ensures) in
+    no-weekday _ _ _ (is .0) (is .1) (c .if1 .taken)
 
 weekday-in-requires : tie.Need-weekday-in-requires
 weekday-in-requires c κs = search needs
 
 returns-3 : tie.Need-returns-3
-unfolding ofDay
 returns-3 c =
-    kept _ (found (c .before .before .before .before .no-winter .ensures) (c .before .before .before .if1 .left))
-    (kept _ (found (c .before .before .no-day .ensures) (c .before .if2 .left)) (rw (c .weekday-in .ensures)))
+    let known = c .before .before .before .before in
+    let is = winter-known _ _ _ (known .known .given .1) (known .before .before .winter-of .ensures) in
+    weekday-given _ _ _ (is .0) (is .1) _ (c .before .if1 .left) (c .weekday-in .ensures)
 
 pub weekday-of-spec : {M : Type 1} → statement M
 weekday-of-spec =
     tie.close
-    (tie.spec no-winter-requires returns no-day-requires returns-2 weekday-in-requires returns-3)
+    (tie.spec
+    winter-of-requires
+    enum-known-known
+    enum-told
+    returns
+    returns-2
+    weekday-in-requires
+    returns-3)

@@ -1,7 +1,7 @@
--- `energy` is the formula over the four sums; each call's demand is part of `Ready`.
+-- `energy` is the formula over the four sums, each within its bound.
 -- Assumes nothing.
+use Rattle.energy.specs.Parts.{partsEnergy}
 use borrow.Author.Needs.{needs}
-use Rattle.energy.specs.EnergyIn.{heldEnergy}
 use Rattle.energy.proofs.lines.energy.Statement.{statement}
 use Rattle.energy.proofs.lines.energy.Tie as tie
 
@@ -17,15 +17,28 @@ drawn-sum-requires c κs = search needs
 drawn-sum-requires-2 : tie.Need-drawn-sum-requires-2
 drawn-sum-requires-2 c κs = search needs
 
-sub-spared : tie.Need-sub-spared
-sub-spared c = search needs
+sub-h : tie.Need-sub-h
+sub-h c = search needs
+
+cast-h : tie.Need-cast-h
+cast-h c = search needs
+
+sub-w : tie.Need-sub-w
+sub-w c = search needs
+
+cast-w : tie.Need-cast-w
+cast-w c = search needs
 
 spared-requires : tie.Need-spared-requires
 spared-requires c κs = search needs
 
 returns : tie.Need-returns
-unfolding heldEnergy
-returns c = rw (← c .before .drawn-sum2 .ensures .0, ← c .before .before .drawn-sum .ensures .0, ← c .before .before .before .trimmed-sum2 .ensures .0, ← c .before .before .before .before .trimmed-sum .ensures .0) (c .spared .ensures)
+unfolding partsEnergy
+returns c =
+    let sums = c .before .before .before in
+    let trims = sums .before .before in
+    rw (← sums .drawn-sum2 .ensures .0, ← sums .before .drawn-sum .ensures .0, ← trims .trimmed-sum2 .ensures .0, ← trims .before .trimmed-sum .ensures .0)
+    (c .spared .ensures)
 
 pub energy-spec : {M : Type 1} → statement M
 energy-spec =
@@ -35,6 +48,9 @@ energy-spec =
     trimmed-sum-requires-2
     drawn-sum-requires
     drawn-sum-requires-2
-    sub-spared
+    sub-h
+    cast-h
+    sub-w
+    cast-w
     spared-requires
     returns)

@@ -1,13 +1,12 @@
--- `line_in` answers 20 for fewer than five reference days, else by the first fault; all that is asked of the book lies in it.
+-- `line_in` answers 20 for fewer than five reference days, else by the six days, all of which the book has.
 -- Assumes nothing.
+use Rattle.energy.proofs.LineLaws.{on-book, line-few, six-days, line-five}
 use borrow.Author.Needs.{needs}
-use Rattle.calendar.proofs.BookLaws.{part-day}
-use Rattle.energy.proofs.LineLaws.{in-book, refs-in, line-few, line-five, ready}
 use Rattle.energy.proofs.lines.line_in.Statement.{statement}
 use Rattle.energy.proofs.lines.line_in.Tie as tie
 
 nearest-requires : tie.Need-nearest-requires
-nearest-requires c κs = part-day _ _ _ (c .before .pre .0)
+nearest-requires c κs = (on-book _ _ _ (c .before .pre .0), c .before .pre .1)
 
 returns : tie.Need-returns
 returns c = line-few _ _ _ _ (c .before .before .nearest .ensures) _ (c .if1 .taken)
@@ -15,32 +14,18 @@ returns c = line-few _ _ _ _ (c .before .before .nearest .ensures) _ (c .if1 .ta
 hours-of-requires : tie.Need-hours-of-requires
 hours-of-requires c κs = search needs
 
-first-fault-requires : tie.Need-first-fault-requires
-first-fault-requires c κs =
+line-of-days-requires : tie.Need-line-of-days-requires
+line-of-days-requires c κs =
     let s = c .before .before .before .before .before in
-    let hf = c .hours-of .ensures in
-    ((in-book _ _ _ (s .pre .0), hf .all-few .1), (hf .in-day, refs-in _ _ (s .args .n) _ (c .before .before .before .nearest .ensures) _ (s .pre .0) (c .before .if1 .left)))
-
-energy-requires : tie.Need-energy-requires
-energy-requires c κs =
-    let s = c .before .before .before .before .before .before in
-    ready _ _ _ _ (c .before .before .before .before .nearest .ensures) (s .args .book .now) _ (c .before .hours-of .ensures) (c .before .before .if1 .left) _ (s .pre .0) (s .pre .1 .few)
-
-line-of-requires : tie.Need-line-of-requires
-line-of-requires c κs = search needs
+    let found = c .before .before .before .nearest .ensures in
+    (six-days _ _ (s .args .n) _ found (c .before .if1 .left) _ (s .pre .0), c .hours-of .ensures .inside)
 
 returns-2 : tie.Need-returns-2
 returns-2 c =
-    line-five _ _ _ _ (c .before .before .before .before .before .before .nearest .ensures) _ _ (c .before .before .before .hours-of .ensures) (c .before .before .before .before .if1 .left) _ _ _ (c .before .before .first-fault .ensures) (c .before .energy .ensures) (c .line-of .ensures)
+    let s = c .before .before .before .before .before .before in
+    let found = c .before .before .before .before .nearest .ensures in
+    line-five _ _ (s .args .n) _ found (c .before .before .if1 .left) _ _ (c .before .hours-of .ensures) (c .line-of-days .ensures)
 
 pub line-in-spec : {M : Type 1} → statement M
 line-in-spec =
-    tie.close
-    (tie.spec
-    nearest-requires
-    returns
-    hours-of-requires
-    first-fault-requires
-    energy-requires
-    line-of-requires
-    returns-2)
+    tie.close (tie.spec nearest-requires returns hours-of-requires line-of-days-requires returns-2)

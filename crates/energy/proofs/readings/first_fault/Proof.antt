@@ -1,104 +1,79 @@
--- `first_fault` looks at the event day and walks the reference days.
--- The invariant: the reference days from i on have the first fault of all days.
+-- `first_fault` goes from day to day: the event day, and then the reference days.
 -- Assumes nothing.
-use Prim.Native.Nat.{_≤_, _-_}
-use mathlib.Core.List.{_∷_}
-use mathlib.Core.Path.{_≡_, _∙_}
+use mathlib.Core.Path.{_≡_}
 use native.Mathlib.Omega.{arith}
-use lib.ListN.{length, drop}
+use lib.ListN.{length}
+use Rattle.energy.proofs.PartLaws.{six-faults}
 use borrow.Author.Needs.{needs}
-use borrow.Author.Tests.{not-true, not-false}
-use Rattle.laws.proofs.Guards.{found}
-use Rattle.energy.specs.Asked.{placesOn}
-use Rattle.energy.specs.Held.{heldHours}
-use Rattle.energy.specs.Readings.{firstFault}
-use Rattle.energy.proofs.SpanLaws.{day-clean, day-fault, ref-clean, ref-fault, refs-end}
 use Rattle.energy.proofs.readings.first_fault.Statement.{statement}
 use Rattle.energy.proofs.readings.first_fault.Tie as tie
 
-abbrev Inv-loop : tie.InvT-loop
-Inv-loop book day hours refs i₀ i =
-    (i ≤ 5) × (firstFault book (placesOn (heldHours hours 0 (hours .all)) (drop i refs)) ≡ firstFault book (placesOn (heldHours hours 0 (hours .all)) (day ∷ refs)))
+fault-after-requires : tie.Need-fault-after-requires
+fault-after-requires c κs = search needs
 
-abbrev μ-loop : tie.MeasureT-loop
-μ-loop book day hours refs i₀ i = 5 - i
+array-read-fault-after : tie.Need-array-read-fault-after
+array-read-fault-after c = search needs
 
-five-long : (c : tie.Start Inv-loop μ-loop) → length (c .args .t4) ≡ 5
+fault-after-requires-2 : tie.Need-fault-after-requires-2
+fault-after-requires-2 c κs =
+    let s = c .before .before .before .before .before .before .before in
+    (s .pre .0 .refs-long .long0, s .pre .1 .refs-in 0 (omega arith), s .pre .2)
+
+array-read-fault-after-2 : tie.Need-array-read-fault-after-2
+array-read-fault-after-2 c = search needs
+
+fault-after-requires-3 : tie.Need-fault-after-requires-3
+fault-after-requires-3 c κs =
+    let s = c .before .before .before .before .before .before .before .before in
+    (s .pre .0 .refs-long .long1, s .pre .1 .refs-in 1 (omega arith), s .pre .2)
+
+array-read-fault-after-3 : tie.Need-array-read-fault-after-3
+array-read-fault-after-3 c = search needs
+
+fault-after-requires-4 : tie.Need-fault-after-requires-4
+fault-after-requires-4 c κs =
+    let s = c .before .before .before .before .before .before .before .before .before in
+    (s .pre .0 .refs-long .long2, s .pre .1 .refs-in 2 (omega arith), s .pre .2)
+
+array-read-fault-after-4 : tie.Need-array-read-fault-after-4
+array-read-fault-after-4 c = search needs
+
+fault-after-requires-5 : tie.Need-fault-after-requires-5
+fault-after-requires-5 c κs =
+    let s = c .before .before .before .before .before .before .before .before .before .before in
+    (s .pre .0 .refs-long .long3, s .pre .1 .refs-in 3 (omega arith), s .pre .2)
+
+array-read-fault-after-5 : tie.Need-array-read-fault-after-5
+array-read-fault-after-5 c = search needs
+
+fault-after-requires-6 : tie.Need-fault-after-requires-6
+fault-after-requires-6 c κs =
+    let s = c .before .before .before .before .before .before .before .before .before .before .before in
+    (s .pre .0 .refs-long .long4, s .pre .1 .refs-in 4 (omega arith), s .pre .2)
+
+five-long : (c : tie.Start) → length (c .args .t2) ≡ 5
 five-long c = search needs
 
-day-fault-requires : tie.Need-day-fault-requires Inv-loop μ-loop
-day-fault-requires c κs = (c .before .pre .0, c .before .pre .1 .0)
-
-is-clean-requires : tie.Need-is-clean-requires Inv-loop μ-loop
-is-clean-requires c κs = search needs
-
-returns : tie.Need-returns Inv-loop μ-loop
+returns : tie.Need-returns
 returns c =
-    let s = c .before .before .before .before in
-    day-fault (s .args .book .now) (heldHours (s .args .hours) 0 (s .args .hours .all)) _ _ _ (c .before .before .day-fault .ensures) (found (c .before .is-clean .ensures) (not-true _ (c .if1 .taken)))
-
-loop-holds : tie.Need-loop-holds Inv-loop μ-loop
-loop-holds c =
-    let s = c .before .before .before .before in
-    (search needs, day-clean (s .args .book .now) (heldHours (s .args .hours) 0 (s .args .hours .all)) _ _ _ (c .before .before .day-fault .ensures) (found (c .before .is-clean .ensures) (not-false _ (c .if1 .left))))
-
-mul-d : tie.Need-mul-d Inv-loop μ-loop
-mul-d c = search needs
-
-array-read-d : tie.Need-array-read-d Inv-loop μ-loop
-array-read-d c = search needs
-
-day-fault-requires-2 : tie.Need-day-fault-requires-2 Inv-loop μ-loop
-day-fault-requires-2 c κs =
-    let s = c .before .before .before .before .before .before in
-    ((s .pre .1 .1 (c .before .loop .i) (c .loop-test .taken), s .pre .0 .1), s .pre .1 .0)
-
-is-clean-requires-2 : tie.Need-is-clean-requires-2 Inv-loop μ-loop
-is-clean-requires-2 c κs = search needs
-
-returns-2 : tie.Need-returns-2 Inv-loop μ-loop
-returns-2 c =
-    let s = c .before .before .before .before .before .before .before .before .before in
-    ref-fault (s .args .book .now) (heldHours (s .args .hours) 0 (s .args .hours .all)) _ (c .before .before .before .before .loop .i) (omega (arith, five-long s)) _ (c .before .before .day-fault2 .ensures)
-    (found (c .before .is-clean2 .ensures) (not-true _ (c .if2 .taken)))
-    ∙ c .before .before .before .before .loop .inv .1
-
-add-i : tie.Need-add-i Inv-loop μ-loop
-add-i c = search needs
-
-loop-less : tie.Need-loop-less Inv-loop μ-loop
-loop-less c = search needs
-
-loop-again : tie.Need-loop-again Inv-loop μ-loop
-loop-again c =
-    let s = c .before .before .before .before .before .before .before .before .before in (
-      search needs,
-      ref-clean (s .args .book .now) (heldHours (s .args .hours) 0 (s .args .hours .all)) (s .args .t4) (c .before .before .before .before .loop .i) (omega (arith, five-long s)) _ (c .before .before .day-fault2 .ensures)
-          (found (c .before .is-clean2 .ensures) (not-false _ (c .if2 .left)))
-          ∙ c .before .before .before .before .loop .inv .1,
-    )
-
-returns-3 : tie.Need-returns-3 Inv-loop μ-loop
-returns-3 c =
-    let s = c .before .before .before .before .before .before in
-    refs-end (s .args .book .now) (heldHours (s .args .hours) 0 (s .args .hours .all)) _ (c .before .loop .i) (omega (arith, five-long s)) ∙ c .before .loop .inv .1
+    let day = c .before .before .before .before .before in
+    let s = day .before .before .before .before .before .before .before in
+    six-faults _ (s .args .t2) _ _ _ _ _ _ _ (five-long s) (day .fault-after .ensures) (c .before .before .before .before .fault-after2 .ensures)
+    (c .before .before .before .fault-after3 .ensures) (c .before .before .fault-after4 .ensures) (c .before .fault-after5 .ensures) (c .fault-after6 .ensures)
 
 pub first-fault-spec : {M : Type 1} → statement M
 first-fault-spec =
     tie.close
     (tie.spec
-    Inv-loop
-    μ-loop
-    day-fault-requires
-    is-clean-requires
-    returns
-    loop-holds
-    mul-d
-    array-read-d
-    day-fault-requires-2
-    is-clean-requires-2
-    returns-2
-    add-i
-    loop-less
-    loop-again
-    returns-3)
+    fault-after-requires
+    array-read-fault-after
+    fault-after-requires-2
+    array-read-fault-after-2
+    fault-after-requires-3
+    array-read-fault-after-3
+    fault-after-requires-4
+    array-read-fault-after-4
+    fault-after-requires-5
+    array-read-fault-after-5
+    fault-after-requires-6
+    returns)

@@ -1,32 +1,39 @@
--- `free_day_serves` has one law for each way out.
+-- `free_day_serves` goes by the kind of the day, which is a book day, so that the two other cases do not come up.
 -- Assumes nothing.
-use mathlib.Core.Bool.{not}
-use mathlib.Core.Path.{sym, ap, _∙_}
+use mathlib.Core.Logic.{inl, inr}
+use Rattle.calendar.proofs.OneOutcome.{day-known}
+use Rattle.energy.specs.Held.{freeServes}
+use Rattle.energy.proofs.KindLaws.{never-past}
 use borrow.Author.Needs.{needs}
-use borrow.Author.Tests.{not-true, not-false}
-use Rattle.energy.proofs.ReferenceLaws.{other-kind, same-kind}
 use Rattle.energy.proofs.reference_days.free_day_serves.Statement.{statement}
 use Rattle.energy.proofs.reference_days.free_day_serves.Tie as tie
 
-is-weekend-requires : tie.Need-is-weekend-requires
-is-weekend-requires c κs = search needs
+kind-of-requires : tie.Need-kind-of-requires
+kind-of-requires c κs = search needs
 
-is-weekend-requires-2 : tie.Need-is-weekend-requires-2
-is-weekend-requires-2 c κs = search needs
+enum-known-kind : tie.Need-enum-known-kind
+enum-known-kind c = search needs
+
+enum-told : tie.Need-enum-told
+enum-told c = search needs
+
+enum-told-2 : tie.Need-enum-told-2
+enum-told-2 c = search needs
 
 returns : tie.Need-returns
-returns c = sym (other-kind _ _ _ (rw (← c .before .before .is-weekend .ensures, ← c .before .is-weekend2 .ensures) (not-true _ (c .if1 .taken))))
-
-is-excluded-requires : tie.Need-is-excluded-requires
-is-excluded-requires c κs = search needs
+unfolding freeServes
+returns c =
+    let known = c .before .before .before .before in
+    let asked = known .before .before in
+    rw (day-known _ _ _ _ (known .kind .given .1) (asked .before .pre .right) (asked .kind-of .ensures) .1)
 
 returns-2 : tie.Need-returns-2
-returns-2 c =
-    let w = c .before in
-    ap not (c .is-excluded .ensures)
-    ∙ sym (same-kind _ _ _ (rw (← w .before .before .is-weekend .ensures, ← w .before .is-weekend2 .ensures) (not-false _ (w .if1 .left))))
+returns-2 c = absurd (never-past _ _ _ (inr (c .enum-told .given .1)) (c .before .before .before .pre) (c .before .before .kind-of .ensures))
+
+returns-3 : tie.Need-returns-3
+returns-3 c = absurd (never-past _ _ _ (inl (c .enum-told2 .given .1)) (c .before .before .before .pre) (c .before .before .kind-of .ensures))
 
 pub free-day-serves-spec : {M : Type 1} → statement M
 free-day-serves-spec =
     tie.close
-    (tie.spec is-weekend-requires is-weekend-requires-2 returns is-excluded-requires returns-2)
+    (tie.spec kind-of-requires enum-known-kind enum-told enum-told-2 returns returns-2 returns-3)

@@ -1,41 +1,31 @@
 -- `trimmed_sum` adds up T.
--- The invariant: the sum and T of the hours from i on make the whole, and each hour added less than 2^36.
+-- The invariant: the sum and T of the hours from the next one on make the whole, and each hour added less than 2^35.
 -- Assumes nothing.
 use Prim.Native.Nat.{_+_, _-_, _*_, _^_, _≤_}
-use mathlib.Core.Path.{_≡_, _∙_, ap}
+use mathlib.Core.List.{[], _∷_}
+use mathlib.Core.Path.{_≡_}
 use native.Mathlib.Omega.{arith}
-use lib.ListN.{length, getD}
+use Rattle.energy.specs.Energy.{sumOver}
+use Rattle.energy.specs.HoursOf.{run}
+use Rattle.energy.specs.Parts.{trimmedIn}
+use Rattle.energy.proofs.PartLaws.{sum-more, sum-none, trimmed-hour}
 use borrow.Author.Needs.{needs}
-use Rattle.energy.specs.Energy.{sumOver, trimmedAt}
-use Rattle.energy.specs.Held.{span}
-use Rattle.energy.specs.Trimmed.{trimmedOf}
-use Rattle.energy.proofs.SpanLaws.{sum-more, sum-none}
 use Rattle.energy.proofs.sums.trimmed_sum.Statement.{statement}
 use Rattle.energy.proofs.sums.trimmed_sum.Tie as tie
 
 abbrev Inv-loop : tie.InvT-loop
-Inv-loop book refs from to at sum₀ i₀ sum i =
-    (from ≤ i) × (i ≤ to) × (sum ≤ i * 2 ^ 36) × (sum + sumOver (trimmedAt book refs) (span at i to) ≡ sumOver (trimmedAt book refs) (span at from to))
+Inv-loop r0 r1 r2 r3 r4 from to sum₀ hour₀ sum hour =
+    (hour ≤ to) × (sum ≤ hour * 2 ^ 35)
+    × (sum + sumOver (trimmedIn (r0 ∷ r1 ∷ r2 ∷ r3 ∷ r4 ∷ [])) (run hour to) ≡ sumOver (trimmedIn (r0 ∷ r1 ∷ r2 ∷ r3 ∷ r4 ∷ [])) (run from to))
 
 abbrev μ-loop : tie.MeasureT-loop
-μ-loop book refs from to at sum₀ i₀ sum i = to - i
-
-seven-long : (c : tie.Start Inv-loop μ-loop) → length (c .args .hours .at) ≡ 7
-seven-long c = search needs
+μ-loop r0 r1 r2 r3 r4 from to sum₀ hour₀ sum hour = to - hour
 
 loop-holds : tie.Need-loop-holds Inv-loop μ-loop
 loop-holds c = search needs
 
-mul-hour : tie.Need-mul-hour Inv-loop μ-loop
-mul-hour c = search needs
-
-array-read-hour : tie.Need-array-read-hour Inv-loop μ-loop
-array-read-hour c = search needs
-
 five-readings-requires : tie.Need-five-readings-requires Inv-loop μ-loop
-five-readings-requires c κs =
-    let s = c .before .before .before .before in
-    (s .pre .1 .0 (c .before .loop .i) (omega arith), s .pre .1 .1)
+five-readings-requires c κs = search needs
 
 trimmed-of-requires : tie.Need-trimmed-of-requires Inv-loop μ-loop
 trimmed-of-requires c κs = search needs
@@ -43,25 +33,28 @@ trimmed-of-requires c κs = search needs
 add-sum : tie.Need-add-sum Inv-loop μ-loop
 add-sum c = search needs
 
-add-i : tie.Need-add-i Inv-loop μ-loop
-add-i c = search needs
+add-hour : tie.Need-add-hour Inv-loop μ-loop
+add-hour c = search needs
 
 loop-less : tie.Need-loop-less Inv-loop μ-loop
 loop-less c = search needs
 
 loop-again : tie.Need-loop-again Inv-loop μ-loop
-unfolding trimmedAt
 loop-again c =
-    let s = c .before .before .before .before .before .before in
-    let l = c .before .before .before .loop in
-    let t : c .trimmed-of .result ≡ trimmedAt (s .args .book .now) (s .args .refs) (getD (s .args .hours .at) (l .i) 0) = c .trimmed-of .ensures .0 ∙ ap trimmedOf (c .before .five-readings .ensures) in
-    omega (arith, t, sum-more (trimmedAt (s .args .book .now) (s .args .refs)) (s .args .hours .at) (l .i) (s .args .to) (c .before .before .loop-test .taken) (omega (arith, seven-long s, s .pre .0)))
+    let turn = c .before .before .before in
+    let a = turn .before .before .before .before .before .before .args in
+    let parts = a .r0 .now ∷ a .r1 .now ∷ a .r2 .now ∷ a .r3 .now ∷ a .r4 .now ∷ [] in
+    omega (
+      arith,
+      trimmed-hour parts (turn .loop .hour) (c .before .five-readings .ensures) (c .trimmed-of .ensures .0),
+      sum-more (trimmedIn parts) (turn .loop .hour) (a .to) (c .before .before .loop-test .taken),
+    )
 
 returns : tie.Need-returns Inv-loop μ-loop
 returns c =
-    let s = c .before .before .before .before in
-    let l = c .before .loop in
-    omega (arith, sum-none (trimmedAt (s .args .book .now) (s .args .refs)) (s .args .hours .at) (l .i) (s .args .to) (c .loop-test .left))
+    let turn = c .before in
+    let a = turn .before .before .before .before .before .before .args in
+    omega (arith, sum-none (trimmedIn (a .r0 .now ∷ a .r1 .now ∷ a .r2 .now ∷ a .r3 .now ∷ a .r4 .now ∷ [])) (turn .loop .hour) (a .to) (c .loop-test .left))
 
 pub trimmed-sum-spec : {M : Type 1} → statement M
 trimmed-sum-spec =
@@ -70,12 +63,10 @@ trimmed-sum-spec =
     Inv-loop
     μ-loop
     loop-holds
-    mul-hour
-    array-read-hour
     five-readings-requires
     trimmed-of-requires
     add-sum
-    add-i
+    add-hour
     loop-less
     loop-again
     returns)

@@ -9,7 +9,7 @@ use native.Mathlib.Omega.{arith}
 use lib.ListN.{length}
 use lib.Seq.{sets}
 use borrow.Author.Needs.{needs}
-use Rattle.money.specs.Lines.{eventBy, energyTo, centsAt, lineAt, linesTo}
+use Rattle.money.specs.Lines.{eventIn, energyTo, centsAt, lineAt, linesTo}
 use Rattle.money.specs.Settlement.{linesIn}
 use Rattle.money.specs.Worth.{roundedWorth}
 use Rattle.money.specs.declared.lines.Event.{Event}
@@ -63,10 +63,10 @@ module _ {p : ℕ} {events : ℕ → Event} {out₀ : List ℕ} {n : ℕ} {out :
       })
 
 abbrev Inv-loop : tie.InvT-loop
-Inv-loop winter book masks price list out₀ n energy₀ worth₀ k₀ out energy worth k = Held price (eventBy winter book masks list) out₀ n out energy worth k
+Inv-loop w book masks price list out₀ n energy₀ worth₀ k₀ out energy worth k = Held price (eventIn w book masks list) out₀ n out energy worth k
 
 abbrev μ-loop : tie.MeasureT-loop
-μ-loop winter book masks price list out₀ n energy₀ worth₀ k₀ out energy worth k = n - k
+μ-loop w book masks price list out₀ n energy₀ worth₀ k₀ out energy worth k = n - k
 
 loop-holds : tie.Need-loop-holds Inv-loop μ-loop
 unfolding energyTo linesTo

@@ -1,7 +1,7 @@
 -- `call_refusal` tries rows 1, 2, 3, 4 and 6 in their order: one way out for each, and one past them all.
 -- Assumes nothing.
 use borrow.Author.Needs.{needs}
-use Rattle.calendar.proofs.Promise.{no-winter}
+use Rattle.dates.proofs.Promise.{no-winter}
 use Rattle.laws.proofs.Guards.{found}
 use Rattle.money.proofs.RefusalLaws.{winter-refused, book-refused, price-refused, list-refused, output-refused, none-refused}
 use Rattle.money.proofs.refusals.call_refusal.Statement.{statement}

@@ -15,7 +15,7 @@ put-lines-requires c κs = search needs
 rounded-worth-requires : tie.Need-rounded-worth-requires
 rounded-worth-requires c κs =
     let s = c .before .before .before .before .before .before .before .before .before in
-    (s .pre .2, rw (c .before .before .put-lines .ensures .0) (total-small _ (events-small _ _ _ _) _ (s .pre .1)))
+    (s .pre .price, rw (c .before .before .put-lines .ensures .0) (total-small _ (events-small _ _ _ _) _ (s .pre .few)))
 
 same-length : tie.Need-same-length
 same-length c = search needs

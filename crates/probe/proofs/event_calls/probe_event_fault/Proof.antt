@@ -1,99 +1,17 @@
--- What C is told of an event is the answer on paper, case by case.
+-- What C is told of an event is its line on paper.
 -- Assumes nothing.
 use borrow.Author.Needs.{needs}
-use native.Mathlib.Omega.{arith}
 use Rattle.probe.proofs.event_calls.probe_event_fault.Statement.{statement}
 use Rattle.probe.proofs.event_calls.probe_event_fault.Tie as tie
 
-masks-of-requires : tie.Need-masks-of-requires
-masks-of-requires c κs = search needs
+line-of-requires : tie.Need-line-of-requires
+line-of-requires c κs = search needs
 
-settle-event-requires : tie.Need-settle-event-requires
-settle-event-requires c κs = search needs
-
-enum-told : tie.Need-enum-told
-enum-told c = search needs
-
-enum-told-2 : tie.Need-enum-told-2
-enum-told-2 c = search needs
-
-enum-known-place : tie.Need-enum-known-place
-enum-known-place c = search needs
-
-cast-result : tie.Need-cast-result
-cast-result c = search needs
-
-add-result : tie.Need-add-result
-add-result c = search needs
-
-enum-known-place-2 : tie.Need-enum-known-place-2
-enum-known-place-2 c = search needs
-
-cast-result-2 : tie.Need-cast-result-2
-cast-result-2 c = search needs
-
-add-result-2 : tie.Need-add-result-2
-add-result-2 c = search needs
-
-enum-told-3 : tie.Need-enum-told-3
-enum-told-3 c = search needs
-
-enum-told-4 : tie.Need-enum-told-4
-enum-told-4 c = search needs
-
-enum-told-5 : tie.Need-enum-told-5
-enum-told-5 c = search needs
-
-enum-told-6 : tie.Need-enum-told-6
-enum-told-6 c = search needs
+fault-of-requires : tie.Need-fault-of-requires
+fault-of-requires c κs = search needs
 
 returns : tie.Need-returns
-returns c = rw (← c .before .before .before .before .masks-of .ensures, ← c .before .before .settle-event .ensures, c .enum-told .given .1)
-
-returns-2 : tie.Need-returns-2
-returns-2 c = rw (← c .before .before .before .before .masks-of .ensures, ← c .before .before .settle-event .ensures, c .enum-told2 .given .1)
-
-returns-3 : tie.Need-returns-3
-returns-3 c = rw (← c .before .before .before .before .before .masks-of .ensures, ← c .before .before .before .settle-event .ensures, c .before .place .given .1) (omega arith)
-
-returns-4 : tie.Need-returns-4
-returns-4 c = rw (← c .before .before .before .before .before .masks-of .ensures, ← c .before .before .before .settle-event .ensures, c .before .place2 .given .1) (omega arith)
-
-returns-5 : tie.Need-returns-5
-returns-5 c = rw (← c .before .before .before .before .masks-of .ensures, ← c .before .before .settle-event .ensures, c .enum-told3 .given .1)
-
-returns-6 : tie.Need-returns-6
-returns-6 c = rw (← c .before .before .before .before .masks-of .ensures, ← c .before .before .settle-event .ensures, c .enum-told4 .given .1)
-
-returns-7 : tie.Need-returns-7
-returns-7 c = rw (← c .before .before .before .before .masks-of .ensures, ← c .before .before .settle-event .ensures, c .enum-told5 .given .1)
-
-returns-8 : tie.Need-returns-8
-returns-8 c = rw (← c .before .before .before .before .masks-of .ensures, ← c .before .before .settle-event .ensures, c .enum-told6 .given .1)
+returns c = rw (c .fault-of .ensures, c .before .line-of .ensures)
 
 pub probe-event-fault-spec : {M : Type 1} → statement M
-probe-event-fault-spec =
-    tie.close
-    (tie.spec
-    masks-of-requires
-    settle-event-requires
-    enum-told
-    enum-told-2
-    enum-known-place
-    cast-result
-    add-result
-    enum-known-place-2
-    cast-result-2
-    add-result-2
-    enum-told-3
-    enum-told-4
-    enum-told-5
-    enum-told-6
-    returns
-    returns-2
-    returns-3
-    returns-4
-    returns-5
-    returns-6
-    returns-7
-    returns-8)
+probe-event-fault-spec = tie.close (tie.spec line-of-requires fault-of-requires returns)

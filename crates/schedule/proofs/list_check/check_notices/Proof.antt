@@ -20,8 +20,8 @@ nothing-before-requires c κs = search needs
 loop-holds : tie.Need-loop-holds Inv-loop μ-loop
 loop-holds c = held-start _ _ _ _ _ (c .nothing-before .ensures)
 
-notice-at-requires : tie.Need-notice-at-requires Inv-loop μ-loop
-notice-at-requires c κs = search needs
+notice-in-requires : tie.Need-notice-in-requires Inv-loop μ-loop
+notice-in-requires c κs = search needs
 
 cast-notice-verdict : tie.Need-cast-notice-verdict Inv-loop μ-loop
 cast-notice-verdict c = search needs
@@ -34,11 +34,11 @@ is-refused-requires c κs = search needs
 
 returns : tie.Need-returns Inv-loop μ-loop
 returns c =
-    held-stop (c .before .before .before .before .before .loop .inv) (c .before .before .before .notice-at .ensures) (c .before .before .notice-verdict .ensures) (c .before .before .before .before .loop-test .taken) (found (c .before .is-refused .ensures) (c .if1 .taken))
+    held-stop (c .before .before .before .before .before .loop .inv) (c .before .before .before .notice-in .ensures) (c .before .before .notice-verdict .ensures) (c .before .before .before .before .loop-test .taken) (found (c .before .is-refused .ensures) (c .if1 .taken))
 
 after-notice-requires : tie.Need-after-notice-requires Inv-loop μ-loop
 after-notice-requires c κs =
-    held-fits (c .before .before .before .before .before .loop .inv) (c .before .before .before .notice-at .ensures) (c .before .before .notice-verdict .ensures) (c .before .before .before .before .before .before .before .before .pre .0) (found (c .before .is-refused .ensures) (c .if1 .left))
+    held-fits (c .before .before .before .before .before .loop .inv) (c .before .before .before .notice-in .ensures) (c .before .before .notice-verdict .ensures) (c .before .before .before .before .before .before .before .before .pre .1) (found (c .before .is-refused .ensures) (c .if1 .left))
 
 add-k : tie.Need-add-k Inv-loop μ-loop
 add-k c = search needs
@@ -48,7 +48,7 @@ loop-less c = search needs
 
 loop-again : tie.Need-loop-again Inv-loop μ-loop
 loop-again c =
-    held-next (c .before .before .before .before .before .before .loop .inv) (c .before .before .before .before .notice-at .ensures) (c .before .before .before .notice-verdict .ensures) (c .before .before .before .before .before .before .before .before .before .pre .0) (c .before .before .before .before .before .loop-test .taken) (found (c .before .before .is-refused .ensures) (c .before .if1 .left)) (c .after-notice .ensures)
+    held-next (c .before .before .before .before .before .before .loop .inv) (c .before .before .before .before .notice-in .ensures) (c .before .before .before .notice-verdict .ensures) (c .before .before .before .before .before .before .before .before .before .pre .1) (c .before .before .before .before .before .loop-test .taken) (found (c .before .before .is-refused .ensures) (c .before .if1 .left)) (c .after-notice .ensures)
 
 returns-2 : tie.Need-returns-2 Inv-loop μ-loop
 returns-2 c = held-done (c .before .loop .inv) (c .loop-test .left)
@@ -61,7 +61,7 @@ check-notices-spec =
     μ-loop
     nothing-before-requires
     loop-holds
-    notice-at-requires
+    notice-in-requires
     cast-notice-verdict
     notice-verdict-requires
     is-refused-requires

@@ -4,35 +4,38 @@ use borrow.Author.Needs.{needs}
 use Rattle.laws.proofs.Guards.{found}
 use Rattle.laws.proofs.Tables.{row-stops, row-goes, rows-end}
 use Rattle.schedule.specs.ListCheck.{ownRows}
+use Rattle.schedule.proofs.RuleLaws.{outside-on, in-period, excluded-on}
 use Rattle.schedule.proofs.list_check.own_verdict.Statement.{statement}
 use Rattle.schedule.proofs.list_check.own_verdict.Tie as tie
 
-outside-period-requires : tie.Need-outside-period-requires
-outside-period-requires c κs = search needs
+kind-on-requires : tie.Need-kind-on-requires
+kind-on-requires c κs = search needs
 
 returns : tie.Need-returns
 unfolding ownRows
-returns c =
-    row-stops _ _ _ (found (c .before .outside-period .ensures) (c .if1 .taken))
-
-excluded-day-requires : tie.Need-excluded-day-requires
-excluded-day-requires c κs = search needs
+returns c = row-stops _ _ _ (outside-on _ _ _ (c .before .before .kind-on .ensures) (c .if1 .taken))
 
 returns-2 : tie.Need-returns-2
 unfolding ownRows
 returns-2 c =
-    row-goes _ _ _ (found (c .before .before .before .outside-period .ensures) (c .before .before .if1 .left))
-    (row-stops _ _ _ (found (c .before .excluded-day .ensures) (c .if2 .taken)))
-
-barred-weekend-requires : tie.Need-barred-weekend-requires
-barred-weekend-requires c κs = search needs
+    let period = c .before in
+    let on = period .before .before .kind-on .ensures in
+    row-goes _ _ _ (outside-on _ _ _ on (period .if1 .left))
+    (row-stops _ _ _ (excluded-on _ _ _ on (period .if1 .left) (c .if2 .taken)))
 
 returns-3 : tie.Need-returns-3
 unfolding ownRows
 returns-3 c =
-    row-goes _ _ _ (found (c .before .before .before .before .before .outside-period .ensures) (c .before .before .before .before .if1 .left))
-    (row-goes _ _ _ (found (c .before .before .before .excluded-day .ensures) (c .before .before .if2 .left))
-    (row-stops _ _ _ (found (c .before .barred-weekend .ensures) (c .if3 .taken))))
+    let open-day = c .before .before in
+    let period = open-day .before in
+    let on = period .before .before .kind-on .ensures in
+    let n = period .before .before .before .args .n in
+    row-goes _ _ _ (outside-on _ _ _ on (period .if1 .left))
+    (row-goes _ _ _ (excluded-on _ _ _ on (period .if1 .left) (open-day .if2 .left))
+    (row-stops _ _ _ (found (c .before .barred-weekend .ensures (in-period _ n _ on (period .if1 .left))) (c .if3 .taken))))
+
+barred-weekend-requires : tie.Need-barred-weekend-requires
+barred-weekend-requires c κs = search needs
 
 bad-hours-requires : tie.Need-bad-hours-requires
 bad-hours-requires c κs = search needs
@@ -40,9 +43,14 @@ bad-hours-requires c κs = search needs
 returns-4 : tie.Need-returns-4
 unfolding ownRows
 returns-4 c =
-    row-goes _ _ _ (found (c .before .before .before .before .before .before .before .outside-period .ensures) (c .before .before .before .before .before .before .if1 .left))
-    (row-goes _ _ _ (found (c .before .before .before .before .before .excluded-day .ensures) (c .before .before .before .before .if2 .left))
-    (row-goes _ _ _ (found (c .before .before .before .barred-weekend .ensures) (c .before .before .if3 .left))
+    let week = c .before .before in
+    let open-day = week .before .before in
+    let period = open-day .before in
+    let on = period .before .before .kind-on .ensures in
+    let n = period .before .before .before .args .n in
+    row-goes _ _ _ (outside-on _ _ _ on (period .if1 .left))
+    (row-goes _ _ _ (excluded-on _ _ _ on (period .if1 .left) (open-day .if2 .left))
+    (row-goes _ _ _ (found (week .before .barred-weekend .ensures (in-period _ n _ on (period .if1 .left))) (week .if3 .left))
     (row-stops _ _ _ (found (c .before .bad-hours .ensures) (c .if4 .taken)))))
 
 bad-length-requires : tie.Need-bad-length-requires
@@ -51,28 +59,39 @@ bad-length-requires c κs = search needs
 returns-5 : tie.Need-returns-5
 unfolding ownRows
 returns-5 c =
-    row-goes _ _ _ (found (c .before .before .before .before .before .before .before .before .before .outside-period .ensures) (c .before .before .before .before .before .before .before .before .if1 .left))
-    (row-goes _ _ _ (found (c .before .before .before .before .before .before .before .excluded-day .ensures) (c .before .before .before .before .before .before .if2 .left))
-    (row-goes _ _ _ (found (c .before .before .before .before .before .barred-weekend .ensures) (c .before .before .before .before .if3 .left))
-    (row-goes _ _ _ (found (c .before .before .before .bad-hours .ensures) (c .before .before .if4 .left))
+    let hours = c .before .before in
+    let week = hours .before .before in
+    let open-day = week .before .before in
+    let period = open-day .before in
+    let on = period .before .before .kind-on .ensures in
+    let n = period .before .before .before .args .n in
+    row-goes _ _ _ (outside-on _ _ _ on (period .if1 .left))
+    (row-goes _ _ _ (excluded-on _ _ _ on (period .if1 .left) (open-day .if2 .left))
+    (row-goes _ _ _ (found (week .before .barred-weekend .ensures (in-period _ n _ on (period .if1 .left))) (week .if3 .left))
+    (row-goes _ _ _ (found (hours .before .bad-hours .ensures) (hours .if4 .left))
     (row-stops _ _ _ (found (c .before .bad-length .ensures) (c .if5 .taken))))))
 
 returns-6 : tie.Need-returns-6
 unfolding ownRows
 returns-6 c =
-    row-goes _ _ _ (found (c .before .before .before .before .before .before .before .before .before .outside-period .ensures) (c .before .before .before .before .before .before .before .before .if1 .left))
-    (row-goes _ _ _ (found (c .before .before .before .before .before .before .before .excluded-day .ensures) (c .before .before .before .before .before .before .if2 .left))
-    (row-goes _ _ _ (found (c .before .before .before .before .before .barred-weekend .ensures) (c .before .before .before .before .if3 .left))
-    (row-goes _ _ _ (found (c .before .before .before .bad-hours .ensures) (c .before .before .if4 .left))
+    let hours = c .before .before in
+    let week = hours .before .before in
+    let open-day = week .before .before in
+    let period = open-day .before in
+    let on = period .before .before .kind-on .ensures in
+    let n = period .before .before .before .args .n in
+    row-goes _ _ _ (outside-on _ _ _ on (period .if1 .left))
+    (row-goes _ _ _ (excluded-on _ _ _ on (period .if1 .left) (open-day .if2 .left))
+    (row-goes _ _ _ (found (week .before .barred-weekend .ensures (in-period _ n _ on (period .if1 .left))) (week .if3 .left))
+    (row-goes _ _ _ (found (hours .before .bad-hours .ensures) (hours .if4 .left))
     (row-goes _ _ _ (found (c .before .bad-length .ensures) (c .if5 .left)) (rows-end _)))))
 
 pub own-verdict-spec : {M : Type 1} → statement M
 own-verdict-spec =
     tie.close
     (tie.spec
-    outside-period-requires
+    kind-on-requires
     returns
-    excluded-day-requires
     returns-2
     barred-weekend-requires
     returns-3

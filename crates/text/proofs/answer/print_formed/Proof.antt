@@ -2,7 +2,7 @@
 -- Assumes nothing.
 use native.Mathlib.Omega.{arith}
 use lib.ListN.{length-take}
-use Rattle.calendar.proofs.Promise.{no-winter, is-winter, winter-count}
+use Rattle.dates.proofs.Promise.{no-winter, is-winter, winter-count}
 use Rattle.text.proofs.StatementLaws.{prints-same, winter-refused, misplaced-refused, book-fits, winter-book}
 use borrow.Author.Needs.{needs}
 use Rattle.text.proofs.answer.print_formed.Statement.{statement}

@@ -1,0 +1,4 @@
+pub mod DateLaws
+pub mod DatesInverse
+pub mod OneOutcome
+pub mod Promise

@@ -1,0 +1,3 @@
+pub mod Winters
+pub mod Dates
+pub mod Answers

@@ -1,0 +1,78 @@
+-- `settle_on` refuses with 2, 10 and 13, in this order, and answers by the line where none holds: the day's part is then in the
+-- book, and the hours lie in a band.
+-- Assumes nothing.
+use borrow.Author.Tests.{eqb-true, not-false}
+use Rattle.calendar.proofs.BookLaws.{part-there}
+use Rattle.laws.proofs.Guards.{found}
+use Rattle.laws.proofs.Refusals.{refused, kept}
+use Rattle.energy.specs.Line.{eventAnswer}
+use Rattle.energy.proofs.HourLaws.{in-band}
+use borrow.Author.Needs.{needs}
+use Rattle.energy.proofs.lines.settle_on.Statement.{statement}
+use Rattle.energy.proofs.lines.settle_on.Tie as tie
+
+wrong-book-requires : tie.Need-wrong-book-requires
+wrong-book-requires c κs = search needs
+
+returns : tie.Need-returns
+unfolding eventAnswer
+returns c = kept _ (c .before .before .before .pre .day .right) (refused _ _ (found (c .before .wrong-book .ensures) (c .if1 .taken)))
+
+returns-2 : tie.Need-returns-2
+unfolding eventAnswer
+returns-2 c =
+    let book = c .before .before in
+    let day = book .before .before .before .pre in
+    kept _ (day .day .right) (kept _ (found (book .before .wrong-book .ensures) (book .if1 .left)) (refused _ _ (rw (← day .period) (c .if2 .taken))))
+
+figures-requires : tie.Need-figures-requires
+figures-requires c κs = search needs
+
+bad-hours-requires : tie.Need-bad-hours-requires
+bad-hours-requires c κs = search needs
+
+returns-3 : tie.Need-returns-3
+unfolding eventAnswer
+returns-3 c =
+    let period = c .before .before .before in
+    let book = period .before .before in
+    let day = book .before .before .before .pre in
+    kept _ (day .day .right)
+    (kept _ (found (book .before .wrong-book .ensures) (book .if1 .left))
+    (kept _ (rw (← day .period) (period .if2 .left))
+    (refused _ _ (rw (← c .before .before .figures .ensures) (found (c .before .bad-hours .ensures) (c .if3 .taken))))))
+
+line-in-requires : tie.Need-line-in-requires
+line-in-requires c κs =
+    let book = c .before .before .before .before .before in
+    let day = book .before .before .before .pre in
+    let whole = eqb-true _ _ (not-false _ (found (book .before .wrong-book .ensures) (book .if1 .left))) in (
+      part-there _ _ _ (day .day .right) whole (day .day .there),
+      day .week,
+      in-band _ _ (c .before .before .figures .ensures) (found (c .before .bad-hours .ensures) (c .if3 .left)),
+    )
+
+returns-4 : tie.Need-returns-4
+unfolding eventAnswer
+returns-4 c =
+    let hours = c .before in
+    let period = hours .before .before .before in
+    let book = period .before .before in
+    let day = book .before .before .before .pre in
+    kept _ (day .day .right)
+    (kept _ (found (book .before .wrong-book .ensures) (book .if1 .left))
+    (kept _ (rw (← day .period) (period .if2 .left))
+    (kept _ (rw (← hours .before .before .figures .ensures) (found (hours .before .bad-hours .ensures) (hours .if3 .left))) (c .line-in .ensures))))
+
+pub settle-on-spec : {M : Type 1} → statement M
+settle-on-spec =
+    tie.close
+    (tie.spec
+    wrong-book-requires
+    returns
+    returns-2
+    figures-requires
+    bad-hours-requires
+    returns-3
+    line-in-requires
+    returns-4)
