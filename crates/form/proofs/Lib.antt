@@ -15,3 +15,4 @@ pub mod BrokenLines
 pub mod LinesInText
 pub mod FirstBroken
 pub mod StopsEarly
+pub mod OneOutcome

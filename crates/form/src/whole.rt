@@ -1,6 +1,7 @@
 // The form of a whole text.
 ghost use mathlib.Core.Path.{_≡_};
-ghost use Rattle.form.specs.Form.{bodyOf, formOf};
+ghost use Rattle.form.specs.Answers.{formPaper, formAnswer};
+ghost use Rattle.form.specs.Form.{bodyOf};
 use crate::lines::Lines;
 use crate::lines::Placed;
 use crate::lines::event_lines;
@@ -62,7 +63,7 @@ fn body_of(text: &[u8], winter: u32, price: u32, events: u32, at: usize) -> Form
 
 // Whether a text has the form.
 pub fn form_of(text: &[u8]) -> Form
-    ensures { λ r. ⌜ r ≡ formOf (now (text .entry)) ⌝ }
+    ensures { λ r. ⌜ formPaper r ≡ formAnswer (now (text .entry)) ⌝ }
 {
     let Number::Is(winter, p) = keyed_at(text, 0, b"winter=") else {
         return Form::Broken(1);

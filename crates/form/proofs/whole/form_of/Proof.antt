@@ -1,6 +1,7 @@
 -- The form of a text is the definition's: each return by the calls that led to it.
 -- Assumes nothing.
 use borrow.Author.Needs.{needs}
+use Rattle.form.specs.Answers.{formAnswer}
 use Rattle.form.specs.Form.{formOf}
 use Rattle.form.proofs.whole.form_of.Statement.{statement}
 use Rattle.form.proofs.whole.form_of.Tie as tie
@@ -18,7 +19,7 @@ enum-told : tie.Need-enum-told
 enum-told c = search needs
 
 returns : tie.Need-returns
-unfolding formOf
+unfolding formOf formAnswer
 returns c =
     rw (
       ← c .before .before .keyed-at .ensures,
@@ -38,7 +39,7 @@ enum-told-2 : tie.Need-enum-told-2
 enum-told-2 c = search needs
 
 returns-2 : tie.Need-returns-2
-unfolding formOf
+unfolding formOf formAnswer
 returns-2 c =
     rw (
       ← c .before .before .before .before .before .before .before .keyed-at .ensures,
@@ -60,7 +61,7 @@ enum-told-3 : tie.Need-enum-told-3
 enum-told-3 c = search needs
 
 returns-3 : tie.Need-returns-3
-unfolding formOf
+unfolding formOf formAnswer
 returns-3 c =
     rw (
       ← c .before .before .before .before .before .before .before .before .before .before .before .before .keyed-at .ensures,
@@ -75,7 +76,7 @@ body-of-requires : tie.Need-body-of-requires
 body-of-requires c κs = search needs
 
 returns-4 : tie.Need-returns-4
-unfolding formOf
+unfolding formOf formAnswer
 returns-4 c =
     rw (
       ← c .before .before .before .before .before .before .before .before .before .before .before .before .before .before .keyed-at .ensures,

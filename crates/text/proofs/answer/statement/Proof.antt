@@ -2,6 +2,7 @@
 -- Assumes nothing.
 use mathlib.Core.Path.{sym, _∙_}
 use borrow.Author.Needs.{needs}
+use Rattle.form.proofs.OneOutcome.{form-is}
 use Rattle.text.proofs.StatementLaws.{no-room, too-long, by-form, form-broken}
 use Rattle.text.proofs.answer.statement.Statement.{statement}
 use Rattle.text.proofs.answer.statement.Tie as tie
@@ -35,7 +36,7 @@ enum-known-shape c = search needs
 
 print-formed-requires : tie.Need-print-formed-requires
 print-formed-requires c κs = (
-  sym (c .before .before .before .before .form-of .ensures) ∙ c .before .before .shape .given .1,
+  sym (form-is _ _ (c .before .before .before .before .form-of .ensures)) ∙ c .before .before .shape .given .1,
   c .before .before .before .before .before .before .if1 .left,
 )
 
@@ -47,7 +48,7 @@ returns-3 c =
     let t = c .before .before .before .before .before .before .before in
     let s = t .before .before .before .before .before in
     form-broken (s .args .text .now) (s .args .out .now) (t .before .before .if1 .left) (t .before .if2 .left) _
-    (sym (c .before .before .before .before .before .line .given .1) ∙ t .form-of .ensures) (c .before .before .refuse2 .ensures)
+    (sym (c .before .before .before .before .before .line .given .1) ∙ form-is _ _ (t .form-of .ensures)) (c .before .before .refuse2 .ensures)
 
 same-length-3 : tie.Need-same-length-3
 same-length-3 c = search needs
@@ -57,7 +58,7 @@ returns-4 c =
     let t = c .before .before .before .before .before .before .before in
     let s = t .before .before .before .before .before in
     by-form (s .args .text .now) (s .args .out .now) (t .before .before .if1 .left) (t .before .if2 .left) _
-    (sym (c .before .before .before .before .before .shape .given .1) ∙ t .form-of .ensures) (c .before .before .print-formed .ensures)
+    (sym (c .before .before .before .before .before .shape .given .1) ∙ form-is _ _ (t .form-of .ensures)) (c .before .before .print-formed .ensures)
 
 pub statement-spec : {M : Type 1} → statement M
 statement-spec =
