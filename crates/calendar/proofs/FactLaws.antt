@@ -25,7 +25,8 @@ first-value : Answer → ℕ
 first-value a = getD (a .values) 0 0
 
 -- the facts of a winter, from N, the first days of December and March, the first weekday, and Easter's days after 1 March
-pub facts-given : (y n december first march after : ℕ) → noWinter y ≡ false → n ≡ days y → december ≡ firstOf y 12 → first ≡ firstWeekday y → march ≡ firstOf y 3
+pub facts-given : (y n december first march after : ℕ) → noWinter y ≡ false → n ≡ days y → december ≡ firstOf y 12 → first ≡ firstWeekday y
+    → march ≡ firstOf y 3
     → after ≡ afterMarchFirst (y + 1)
     → factsPaper (record { days = n; december = december; first = first; easter = march + after }) ≡ winterFacts y
 unfolding winterFacts winterOf easterInBook first-value
@@ -56,7 +57,8 @@ module _ (w : Winter) (d : ℕ) (right : wrongWinter w ≡ false) where
   unfolding dayKind
   no-kind h = kept (refusal 1) right (refused _ _ (day-past w d h))
 
-  pub kind-given : (p k e : Bool) → d < w .days → p ≡ leb (w .december) d → k ≡ weekend w d → e ≡ excluded w d → given (bit p ∷ bit k ∷ bit e ∷ []) ≡ dayKind w d
+  pub kind-given : (p k e : Bool) → d < w .days → p ≡ leb (w .december) d → k ≡ weekend w d → e ≡ excluded w d
+      → given (bit p ∷ bit k ∷ bit e ∷ []) ≡ dayKind w d
   unfolding dayKind
   kind-given p k e h p-is k-is e-is =
       let there = day-there w d h in

@@ -122,14 +122,16 @@ winter-known y r w q e = either (noWinter y) refl (known-is y r e)
     either true n p = let z : _≡_ {A = ℕ} 0 1 = cc in absurd (omega arith)
     either false n p = (n, cc)
 
-pub day-known : (w : Winter) (d : ℕ) (r : DayKind) (k : Kind) → r ≡ DayKindCase.Is k → wrongWinter w ≡ false → kindPaper r ≡ dayKind w d → (noDay w d ≡ false) × (k ≡ kindIn w d)
+pub day-known : (w : Winter) (d : ℕ) (r : DayKind) (k : Kind)
+    → r ≡ DayKindCase.Is k → wrongWinter w ≡ false → kindPaper r ≡ dayKind w d → (noDay w d ≡ false) × (k ≡ kindIn w d)
 day-known w d r k q f e = either (noDay w d) refl (kind-is w d r f e)
   where
     either : (b : Bool) → noDay w d ≡ b → r ≡ cond b DayKindCase.NoDay (DayKindCase.Is (kindIn w d)) → (noDay w d ≡ false) × (k ≡ kindIn w d)
     either true n p = let z : _≡_ {A = ℕ} 0 1 = cc in absurd (omega arith)
     either false n p = (n, cc)
 
-pub no-day-known : (w : Winter) (d : ℕ) (r : DayKind) → (r ≡ DayKindCase.NoDay) ⊎ (r ≡ DayKindCase.NoWinter) → wrongWinter w ≡ false → kindPaper r ≡ dayKind w d → noDay w d ≡ true
+pub no-day-known : (w : Winter) (d : ℕ) (r : DayKind)
+    → (r ≡ DayKindCase.NoDay) ⊎ (r ≡ DayKindCase.NoWinter) → wrongWinter w ≡ false → kindPaper r ≡ dayKind w d → noDay w d ≡ true
 no-day-known w d r q f e = either (noDay w d) refl (kind-is w d r f e)
   where
     neither : r ≡ DayKindCase.Is (kindIn w d) → (r ≡ DayKindCase.NoDay) ⊎ (r ≡ DayKindCase.NoWinter) → _≡_ {A = ℕ} 0 1

@@ -67,7 +67,8 @@ module _ (y i n : ℕ) (h : i < 5) (e : n ≡ getD (monthLengths y) i 0) where
   unfolding dateFrom
   date-here month left l = rw (now-first, lt-ltb left n l)
 
-  pub date-next : (month left : ℕ) → n ≤ left → dateFrom (drop (i + 1) (monthLengths y)) (monthAfter month) (left - n) ≡ dateFrom (drop i (monthLengths y)) month left
+  pub date-next : (month left : ℕ) → n ≤ left
+      → dateFrom (drop (i + 1) (monthLengths y)) (monthAfter month) (left - n) ≡ dateFrom (drop i (monthLengths y)) month left
   unfolding dateFrom
   date-next month left l = rw (now-first, le-ltb left n l)
 

@@ -80,7 +80,8 @@ first-value : (x d : ℕ) → given (x ∷ []) ≡ given (d ∷ []) → x ≡ d
 first-value x d e = ap (λ (a : Answer). getD (a .values) 0 0) e
 
 module _ (n : ℕ) (lengths : List ℕ) (now first month day d : ℕ) where
-  in-this : now ≡ month → (b : Bool) → (ltb day 1 || ltb n day) ≡ b → cond b (refusal 10) (given ((first + day - 1) ∷ [])) ≡ given (d ∷ []) → FoundAt (n ∷ lengths) now first month day d
+  in-this : now ≡ month → (b : Bool) → (ltb day 1 || ltb n day) ≡ b
+      → cond b (refusal 10) (given ((first + day - 1) ∷ [])) ≡ given (d ∷ []) → FoundAt (n ∷ lengths) now first month day d
   unfolding FoundAt dateFrom
   in-this m true q e = no-refusal 9 (d ∷ []) e
   in-this m false q e =

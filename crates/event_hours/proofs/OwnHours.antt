@@ -70,4 +70,11 @@ module _ {w : ℕ} {l : List ℕ} (st : Standing w l) (k : ℕ) (b : k < countOf
       let n = noticeAt l k in
       let m = standing-marks st k b in
       let e : n .start + (n .end - n .start) ≡ n .end = omega arith in
-      rw (lt-leb 152 (n .day) (m .in-book), start-back, length-back, e, le-ltb 24 (n .end) (omega arith), eq-eqb (eventHours l k) (hoursMask (n .start) (n .end)) own-hours-back)
+      rw (
+        lt-leb 152 (n .day) (m .in-book),
+        start-back,
+        length-back,
+        e,
+        le-ltb 24 (n .end) (omega arith),
+        eq-eqb (eventHours l k) (hoursMask (n .start) (n .end)) own-hours-back,
+      )

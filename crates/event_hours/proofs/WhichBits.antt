@@ -71,7 +71,8 @@ module _ (l : List ℕ) (d h : ℕ) where
   marked zero m v = absurd (omega (arith, v .among))
   marked (suc k) m v =
       ⊎-elim (λ (e : v .which ≡ k). new-bit (masksTo l k) (noticeAt l k) d h (length-to l k) (m k (omega arith)) (rw e at (v .covers)))
-      (λ (b : v .which < k). old-bit (masksTo l k) (noticeAt l k) d h (length-to l k) (marked k (λ j c. m j (omega arith)) (record { which = v .which; among = b; covers = v .covers })))
+      (λ (b : v .which < k). old-bit (masksTo l k) (noticeAt l k) d h (length-to l k)
+      (marked k (λ j c. m j (omega arith)) (record { which = v .which; among = b; covers = v .covers })))
       (eq-or-lt-of-le (omega (arith, v .among)))
 
 -- a notice of an accepted list marks its hours

@@ -39,7 +39,8 @@ fn refused_with(number: u32, place: u32) -> Settlement
 fn settle_accepted(w: Winter, book: &[u32], price: u32, list: &[u32], out: &mut [u64]) -> Settlement
     requires { ⌜ Fits price (now list) (length (now out)) ⌝ }
     ensures { λ r. ⌜ r ≡ totalsOf price (eventIn w (now (book .entry)) (masksOf (now (list .entry))) (now (list .entry))) (countOf (now (list .entry))) ⌝ }
-    ensures { λ _. ⌜ now (out .exit) ≡ linesIn price (eventIn w (now (book .entry)) (masksOf (now (list .entry))) (now (list .entry))) (countOf (now (list .entry))) (now (out .entry)) ⌝ }
+    ensures { λ _. ⌜ now (out .exit) ≡ linesIn price (eventIn w (now (book .entry)) (masksOf (now (list .entry))) (now (list .entry)))
+        (countOf (now (list .entry))) (now (out .entry)) ⌝ }
 {
     let masks = event_hours::masks_of(list);
     let energy = put_lines(w, book, &masks, price, list, out, list.len() / 3);
@@ -55,8 +56,10 @@ fn settle_accepted(w: Winter, book: &[u32], price: u32, list: &[u32], out: &mut 
 // Settles a winter whose facts are at hand, once the call's own refusals are past: the notices under profile 1, and then the lines.
 fn settle_in(w: Winter, book: &[u32], price: u32, list: &[u32], out: &mut [u64]) -> Settlement
     requires { ⌜ Fits price (now list) (length (now out)) ⌝ }
-    ensures { λ r. ⌜ r ≡ settledBy (checkedIn w Credit (now (list .entry))) price (eventIn w (now (book .entry)) (masksOf (now (list .entry))) (now (list .entry))) (countOf (now (list .entry))) ⌝ }
-    ensures { λ _. ⌜ now (out .exit) ≡ writtenBy (checkedIn w Credit (now (list .entry))) price (eventIn w (now (book .entry)) (masksOf (now (list .entry))) (now (list .entry))) (countOf (now (list .entry))) (now (out .entry)) ⌝ }
+    ensures { λ r. ⌜ r ≡ settledBy (checkedIn w Credit (now (list .entry))) price
+        (eventIn w (now (book .entry)) (masksOf (now (list .entry))) (now (list .entry))) (countOf (now (list .entry))) ⌝ }
+    ensures { λ _. ⌜ now (out .exit) ≡ writtenBy (checkedIn w Credit (now (list .entry))) price
+        (eventIn w (now (book .entry)) (masksOf (now (list .entry))) (now (list .entry))) (countOf (now (list .entry))) (now (out .entry)) ⌝ }
 {
     let verdict = schedule::check_in(w, Profile::Credit, list);
     let number = schedule::number_of(verdict);

@@ -13,7 +13,8 @@ use Rattle.notices.specs.Notices.{countOf, noticeAt, hoursOf, hoursTo}
 use Rattle.notices.specs.declared.notices.Notice.{Notice}
 
 module _ (l : List ℕ) where
-  pub notice-read : (k : ℕ) → k < countOf l → _≡_ {A = Notice} (record { day = getD l (k * 3) 0; start = getD l (k * 3 + 1) 0; end = getD l (k * 3 + 2) 0 }) (noticeAt l k)
+  pub notice-read : (k : ℕ) → k < countOf l
+      → _≡_ {A = Notice} (record { day = getD l (k * 3) 0; start = getD l (k * 3 + 1) 0; end = getD l (k * 3 + 2) 0 }) (noticeAt l k)
   unfolding noticeAt
   notice-read k h = rw (lt-ltb k (countOf l) h)
 

@@ -58,7 +58,8 @@ fn energy_of(line: Line) -> u64
 
 // The line of an event, by the masks of a list.
 fn line_of(winter: u32, book: &[u32], list: &[u32], day: u32, start: u32, end: u32) -> Line
-    ensures { λ r. ⌜ linePaper r ≡ ofYear winter (λ (w : Winter). eventAnswer w (now (book .entry)) (masksOf (now (list .entry))) (record { day = day; start = start; end = end })) ⌝ }
+    ensures { λ r. ⌜ linePaper r ≡ ofYear winter (λ (w : Winter). eventAnswer w (now (book .entry)) (masksOf (now (list .entry)))
+        (record { day = day; start = start; end = end })) ⌝ }
 {
     let known = calendar::winter_of(winter);
     let Known::Is(w) = known else {
@@ -78,7 +79,8 @@ pub extern "C" fn probe_event_fault(
     start: u32,
     end: u32,
 ) -> u64
-    ensures { λ r. ⌜ r ≡ told (ofYear winter (λ (w : Winter). eventAnswer w (now (book .entry)) (masksOf (now (list .entry))) (record { day = day; start = start; end = end }))) ⌝ }
+    ensures { λ r. ⌜ r ≡ told (ofYear winter (λ (w : Winter). eventAnswer w (now (book .entry)) (masksOf (now (list .entry)))
+        (record { day = day; start = start; end = end }))) ⌝ }
 {
     fault_of(line_of(winter, book, list, day, start, end))
 }
@@ -93,7 +95,8 @@ pub extern "C" fn probe_event_energy(
     start: u32,
     end: u32,
 ) -> u64
-    ensures { λ r. ⌜ r ≡ energyTold (ofYear winter (λ (w : Winter). eventAnswer w (now (book .entry)) (masksOf (now (list .entry))) (record { day = day; start = start; end = end }))) ⌝ }
+    ensures { λ r. ⌜ r ≡ energyTold (ofYear winter (λ (w : Winter). eventAnswer w (now (book .entry)) (masksOf (now (list .entry)))
+        (record { day = day; start = start; end = end }))) ⌝ }
 {
     energy_of(line_of(winter, book, list, day, start, end))
 }

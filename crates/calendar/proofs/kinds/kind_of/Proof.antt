@@ -29,7 +29,8 @@ is-excluded-requires c κs = day-there _ _ (c .before .before .if2 .left)
 returns-3 : tie.Need-returns-3
 returns-3 c =
     let right = c .before .before .before .before .before in
-    kind-given _ _ (found (right .before .wrong-winter .ensures) (right .if1 .left)) _ _ _ (c .before .before .before .if2 .left) refl (c .before .is-weekend .ensures) (c .is-excluded .ensures)
+    kind-given _ _ (found (right .before .wrong-winter .ensures) (right .if1 .left)) _ _ _
+    (c .before .before .before .if2 .left) refl (c .before .is-weekend .ensures) (c .is-excluded .ensures)
 
 pub kind-of-spec : {M : Type 1} → statement M
 kind-of-spec =

@@ -26,7 +26,8 @@ settle-event-requires c κs = search needs
 returns-2 : tie.Need-returns-2
 returns-2 c =
     let known = c .before .before .before .before in
-    rw (← c .before .before .masks-of .ensures) (of-year _ _ (known .before .before .winter-of .ensures) _ _ (known .known .given .1) (c .settle-event .ensures))
+    rw (← c .before .before .masks-of .ensures)
+    (of-year _ _ (known .before .before .winter-of .ensures) _ _ (known .known .given .1) (c .settle-event .ensures))
 
 pub line-of-spec : {M : Type 1} → statement M
 line-of-spec =
