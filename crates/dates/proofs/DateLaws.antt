@@ -12,8 +12,12 @@ use lib.Seq.{drop-cons}
 use borrow.Author.Tests.{eqb-true, eq-eqb, ne-eqb, lt-ltb, le-ltb, ltb-false}
 use Rattle.laws.proofs.Guards.{both, neither}
 use Rattle.laws.specs.Answer.{given, refusal}
-use Rattle.dates.specs.Dates.{commonLengths, monthLengths, monthAfter, dateFrom, dayInMonth, bookDayFrom}
+use Rattle.dates.specs.Dates.{monthLengths, monthAfter, dateFrom, dayInMonth, bookDayFrom}
 use Rattle.dates.specs.Winters.{leap, days}
+
+-- the code's table: the months of a winter whose February is a common year's
+abbrev pub commonLengths : List ℕ
+commonLengths = 30 ∷ 31 ∷ 31 ∷ 28 ∷ 31 ∷ []
 
 -- the length of month i: the table's, but for a February with a leap day
 pub length-leap : (y i : ℕ) → (eqb i 3 && leap (y + 1)) ≡ true → 29 ≡ getD (monthLengths y) i 0

@@ -8,11 +8,7 @@ use lib.Dec.{ltb, eqb}
 use Rattle.laws.specs.Answer.{Answer, given, refusal}
 use Rattle.dates.specs.Winters.{leap}
 
--- November, December, January, February of a common year, March
-abbrev pub commonLengths : List ℕ
-commonLengths = 30 ∷ 31 ∷ 31 ∷ 28 ∷ 31 ∷ []
-
--- the lengths of the months of winter y
+-- the lengths of the months of winter y: November, December, January, February, March
 unfoldable pub monthLengths : ℕ → List ℕ
 monthLengths y = 30 ∷ 31 ∷ 31 ∷ cond (leap (y + 1)) 29 28 ∷ 31 ∷ []
 

@@ -61,8 +61,8 @@ pub(crate) fn starts_before(last: Notice, n: Notice) -> bool
     (n.day < last.day) | (n.start < last.end)
 }
 
-// 16: the same day and band as the notice before it. The evening band starts where the second half of the day's hours does. On a later
-// day, as most are, there is nothing more to ask.
+// 16: the same day and band as the notice before it. Each lies inside one band (13), so that the band is told by whether it starts before
+// the evening's. On a later day, as most are, there is nothing more to ask.
 pub(crate) fn same_band(last: Notice, n: Notice) -> bool
     ensures { λ r. ⌜ r ≡ sameBand last n ⌝ }
 {
