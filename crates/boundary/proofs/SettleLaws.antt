@@ -33,7 +33,7 @@ whole-long bytes = numbers-long bytes (length bytes / 4)
 
 -- the call's refusal: number 0, or refused by winter, price or lengths
 module _ (w p : ℕ) (book list out : List ℕ) (readings numbers number : ℕ) (b : readings ≡ numberCount (length book)) (l : numbers ≡ numberCount (length list))
-    (e : refusalAt number 0 ≡ firstOf 0 (callRows w readings p numbers (length out / 8))) where
+    (e : refusalAt number 0 ≡ firstOf (callRows w readings p numbers (length out / 8))) where
   refusal-is : (number ≡ 0 → ⊥) → refusedWith number 0 ≡ settlement w (decoded book) p (decoded list) (length out / 8)
   refusal-is f = call-refused w p (decoded book) (decoded list) (length out / 8) number (rw (decoded-long book, decoded-long list, ← b, ← l) e) f
 

@@ -4,6 +4,8 @@ pub mod Guards
 pub mod Order
 pub mod ReadBack
 pub mod Refusals
+pub mod RowLaws
 pub mod Same
 pub mod Stores
 pub mod Tables
+pub mod Walks

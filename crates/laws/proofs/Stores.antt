@@ -1,10 +1,12 @@
 -- Stores in a row, for loops that fill a lent slice from its front.
 -- Assumes nothing.
 use Prim.Native.Nat.{ℕ, zero, suc, _+_, _≤_}
-use mathlib.Core.List.{List, _∷_, _++_, append-nil}
+use mathlib.Core.List.{List, [], _∷_, _++_, append-nil}
 use mathlib.Core.Path.{_≡_, refl, ap, sym, _∙_}
+use native.Mathlib.Nat.{add-suc}
+use native.Mathlib.Numerals.{add-one}
 use native.Mathlib.Omega.{arith}
-use lib.ListN.{length, take, drop, replicate, length-append, length-drop, drop-of-length-le}
+use lib.ListN.{length, set, take, drop, replicate, length-append, length-drop, drop-of-length-le}
 use lib.Seq.{sets, sets-eq, take-at, drop-append-add, drop-drop}
 
 -- stores that start where the done part xs ends make it longer by what they store, and leave the rest of the slice l as it was
@@ -16,6 +18,24 @@ sets-front xs l vs i e h =
     sets-eq vs (xs ++ drop i l) i fits
     ∙ ap (λ (r : List ℕ). r ++ vs ++ drop (i + length vs) (xs ++ drop i l)) done
     ∙ ap (λ (r : List ℕ). xs ++ vs ++ r) (ap (λ (k : ℕ). drop (k + length vs) (xs ++ drop i l)) (sym e) ∙ rest)
+
+-- stores one after another as code writes them: those of `storesFrom` at i + j, i + (j + 1) and so on, all of them at i, i + 1 and so on
+abbrev pub storesFrom : List ℕ → ℕ → ℕ → List ℕ → List ℕ
+storesFrom l i j [] = l
+storesFrom l i j (v ∷ vs) = storesFrom (set l (i + j) v) i (suc j) vs
+
+abbrev pub storesAt : List ℕ → ℕ → List ℕ → List ℕ
+storesAt l i [] = l
+storesAt l i (v ∷ vs) = storesFrom (set l i v) i 1 vs
+
+from-sets : (l : List ℕ) (i j : ℕ) (vs : List ℕ) → storesFrom l i j vs ≡ sets l (i + j) vs
+from-sets l i j [] = refl
+from-sets l i j (v ∷ vs) = from-sets (set l (i + j) v) i (suc j) vs ∙ rw (add-suc i j)
+
+-- a line of any length, stored number by number, is stored
+pub stores-in-a-row : (l : List ℕ) (i : ℕ) (vs : List ℕ) → storesAt l i vs ≡ sets l i vs
+stores-in-a-row l i [] = refl
+stores-in-a-row l i (v ∷ vs) = from-sets (set l i v) i 1 vs ∙ rw (add-one i)
 
 -- stores over a whole slice leave what they store
 pub sets-whole : (l vs : List ℕ) → length vs ≡ length l → sets l 0 vs ≡ vs

@@ -11,8 +11,8 @@ use lib.Dec.{eqb}
 use lib.ListN.{getD}
 use borrow.Author.Tests.{eqb-true, ne-eqb, not-false}
 use Rattle.laws.specs.Answer.{Answer, refuse}
-use Rattle.laws.specs.Table.{accepted, refusalAt, Row, row, firstOf, isRefusal, orElse}
-use Rattle.laws.proofs.Every.{Every}
+use Rattle.laws.specs.Table.{accepted, refusalAt, Row, row, toldBy, firstOf, isRefusal, orElse}
+use Rattle.laws.proofs.Every.{Every, right}
 use Rattle.laws.proofs.Refusals.{refused, kept}
 
 -- the numbers of a table's rows are refusal numbers
@@ -26,74 +26,78 @@ NoneBroken = Every (λ (r : Row). r .broken ≡ false)
 not-accepted : {X : Type 0} (n place : ℕ) → 1 ≤ n → refusalAt n place ≡ accepted → X
 not-accepted n place h e = let z : n ≡ 0 = ap (λ (a : Answer). a .number) e in absurd (omega arith)
 
-module _ (place : ℕ) where
-  none-broken : (r : Row) (rows : List Row) → 1 ≤ r .number → (firstOf place rows ≡ accepted → NoneBroken rows)
-      → (b : Bool) → r .broken ≡ b → refuse b (refusalAt (r .number) place) (firstOf place rows) ≡ accepted → NoneBroken (r ∷ rows)
-  unfolding refuse
-  none-broken r rows n rest true q e = not-accepted (r .number) place n e
-  none-broken r rows n rest false q e = (q, rest e)
+none-broken : (r : Row) (rows : List Row) → 1 ≤ r .number → (firstOf rows ≡ accepted → NoneBroken rows)
+    → (b : Bool) → r .broken ≡ b → refuse b (toldBy r) (firstOf rows) ≡ accepted → NoneBroken (r ∷ rows)
+unfolding refuse
+none-broken r rows n rest true q e = not-accepted (r .number) (r .place) n e
+none-broken r rows n rest false q e = (q, rest e)
 
-  pub accepted-none : (rows : List Row) → Numbered rows → firstOf place rows ≡ accepted → NoneBroken rows
-  unfolding firstOf
-  accepted-none [] n e = tt
-  accepted-none (r ∷ rows) n e = none-broken r rows (n .0) (accepted-none rows (n .1)) (r .broken) refl e
+pub accepted-none : (rows : List Row) → Numbered rows → firstOf rows ≡ accepted → NoneBroken rows
+unfolding firstOf
+accepted-none [] n e = tt
+accepted-none (r ∷ rows) n e = none-broken r rows (n .0) (accepted-none rows (n .1)) (r .broken) refl e
 
-  pub none-accepted : (rows : List Row) → NoneBroken rows → firstOf place rows ≡ accepted
-  unfolding firstOf refuse
-  none-accepted [] t = refl
-  none-accepted (r ∷ rows) t = rw (t .0) (none-accepted rows (t .1))
+pub none-accepted : (rows : List Row) → NoneBroken rows → firstOf rows ≡ accepted
+unfolding firstOf refuse
+none-accepted [] t = refl
+none-accepted (r ∷ rows) t = rw (t .0) (none-accepted rows (t .1))
 
 -- a table row by row: a broken row decides, past one that is kept the rest does, and past the last nothing is refused
-module _ (place : ℕ) where
-  pub row-stops : (r : Row) (rows : List Row) → r .broken ≡ true → refusalAt (r .number) place ≡ firstOf place (r ∷ rows)
-  unfolding firstOf
-  row-stops r rows e = refused _ _ e
+pub row-stops : (r : Row) (rows : List Row) → r .broken ≡ true → toldBy r ≡ firstOf (r ∷ rows)
+unfolding firstOf
+row-stops r rows e = refused _ _ e
 
-  pub row-goes : (r : Row) (rows : List Row) {a : Answer} → r .broken ≡ false → a ≡ firstOf place rows → a ≡ firstOf place (r ∷ rows)
-  unfolding firstOf
-  row-goes r rows e q = kept _ e q
+pub row-goes : (r : Row) (rows : List Row) {a : Answer} → r .broken ≡ false → a ≡ firstOf rows → a ≡ firstOf (r ∷ rows)
+unfolding firstOf
+row-goes r rows e q = kept _ e q
 
-  pub rows-end : accepted ≡ firstOf place []
-  unfolding firstOf
-  rows-end = refl
+pub rows-end : accepted ≡ firstOf []
+unfolding firstOf
+rows-end = refl
 
--- the first broken row: its number is what is answered, at the given place, and no row before it is broken
-pub record BrokenAt (place : ℕ) (rows : List Row) : Type 0 where
+-- the first broken row: its number and place are what is answered, and no row before it is broken
+pub record FirstBroken (rows : List Row) : Type 0 where
   pub number : ℕ
+  pub place : ℕ
   pub before : List Row
   pub after : List Row
-  pub answer : firstOf place rows ≡ refusalAt number place
-  pub rows-are : rows ≡ before ++ (row number true ∷ after)
+  pub answer : firstOf rows ≡ refusalAt number place
+  pub rows-are : rows ≡ before ++ (row number place true ∷ after)
   pub kept-before : NoneBroken before
 
-module _ (place : ℕ) where
-  here-or-later : (r : Row) (rows : List Row) → (isRefusal (firstOf place rows) ≡ true → BrokenAt place rows)
-      → (b : Bool) → r .broken ≡ b → isRefusal (refuse b (refusalAt (r .number) place) (firstOf place rows)) ≡ true → BrokenAt place (r ∷ rows)
-  unfolding firstOf refuse
-  here-or-later r rows later true q e =
-      record {
-        number = r .number;
-        before = [];
-        after = rows;
-        answer = rw q;
-        rows-are = ap (λ (b : Bool). row (r .number) b ∷ rows) q;
-        kept-before = tt;
-      }
-  here-or-later r rows later false q e =
-      let t = later e in
-      record {
-        number = t .number;
-        before = r ∷ t .before;
-        after = t .after;
-        answer = rw q (t .answer);
-        rows-are = ap (λ (xs : List Row). r ∷ xs) (t .rows-are);
-        kept-before = (q, t .kept-before);
-      }
+here-or-later : (r : Row) (rows : List Row) → (isRefusal (firstOf rows) ≡ true → FirstBroken rows)
+    → (b : Bool) → r .broken ≡ b → isRefusal (refuse b (toldBy r) (firstOf rows)) ≡ true → FirstBroken (r ∷ rows)
+unfolding firstOf refuse
+here-or-later r rows later true q e =
+    record {
+      number = r .number;
+      place = r .place;
+      before = [];
+      after = rows;
+      answer = rw q;
+      rows-are = ap (λ (b : Bool). row (r .number) (r .place) b ∷ rows) q;
+      kept-before = tt;
+    }
+here-or-later r rows later false q e =
+    let t = later e in
+    record {
+      number = t .number;
+      place = t .place;
+      before = r ∷ t .before;
+      after = t .after;
+      answer = rw q (t .answer);
+      rows-are = ap (λ (xs : List Row). r ∷ xs) (t .rows-are);
+      kept-before = (q, t .kept-before);
+    }
 
-  pub first-broken : (rows : List Row) → isRefusal (firstOf place rows) ≡ true → BrokenAt place rows
-  unfolding firstOf
-  first-broken [] e = let z : _≡_ {A = ℕ} 0 1 = cc in absurd (omega arith)
-  first-broken (r ∷ rows) e = here-or-later r rows (first-broken rows) (r .broken) refl e
+pub first-broken : (rows : List Row) → isRefusal (firstOf rows) ≡ true → FirstBroken rows
+unfolding firstOf
+first-broken [] e = let z : _≡_ {A = ℕ} 0 1 = cc in absurd (omega arith)
+first-broken (r ∷ rows) e = here-or-later r rows (first-broken rows) (r .broken) refl e
+
+-- where all rows have one place, it is the place that is answered
+pub place-of-all : (k : ℕ) {rows : List Row} → Every (λ (r : Row). r .place ≡ k) rows → (b : FirstBroken rows) → b .place ≡ k
+place-of-all k h b = right (λ (r : Row). r .place ≡ k) (b .before) (row (b .number) (b .place) true ∷ b .after) (rw (b .rows-are) at h) .0
 
 -- one answer after another
 
@@ -118,39 +122,34 @@ else-none a b e = by (isRefusal a) refl e
     by true q e = absurd (true≢false (sym q ∙ e))
     by false q e = (q, e)
 
-pub else-accepted : (a b : Answer) → orElse a b ≡ accepted → (isRefusal a ≡ false) × (b ≡ accepted)
-else-accepted a b e = let p = else-none a b (ap isRefusal e) in (p .0, else-go a b (p .0) refl ∙ e)
-
 pub refuse-none : (b : Bool) (n place : ℕ) (rest : Answer) → 1 ≤ n → isRefusal (refuse b (refusalAt n place) rest) ≡ false → (b ≡ false) × (isRefusal rest ≡ false)
 unfolding refuse
 refuse-none true n place rest h e = let z : n ≡ 0 = eqb-true n 0 (not-false (eqb n 0) e) in absurd (omega arith)
 refuse-none false n place rest h e = (refl, e)
 
 -- a table's answer that is no refusal accepts
-module _ (place : ℕ) where
-  not-here : (r : Row) (rows : List Row) → 1 ≤ r .number → (isRefusal (firstOf place rows) ≡ false → firstOf place rows ≡ accepted)
-      → (b : Bool) → isRefusal (refuse b (refusalAt (r .number) place) (firstOf place rows)) ≡ false → refuse b (refusalAt (r .number) place) (firstOf place rows) ≡ accepted
-  unfolding refuse
-  not-here r rows n rest true e = let z : r .number ≡ 0 = eqb-true (r .number) 0 (not-false (eqb (r .number) 0) e) in absurd (omega arith)
-  not-here r rows n rest false e = rest e
+not-here : (r : Row) (rows : List Row) → 1 ≤ r .number → (isRefusal (firstOf rows) ≡ false → firstOf rows ≡ accepted)
+    → (b : Bool) → isRefusal (refuse b (toldBy r) (firstOf rows)) ≡ false → refuse b (toldBy r) (firstOf rows) ≡ accepted
+unfolding refuse
+not-here r rows n rest true e = let z : r .number ≡ 0 = eqb-true (r .number) 0 (not-false (eqb (r .number) 0) e) in absurd (omega arith)
+not-here r rows n rest false e = rest e
 
-  pub not-refused : (rows : List Row) → Numbered rows → isRefusal (firstOf place rows) ≡ false → firstOf place rows ≡ accepted
-  unfolding firstOf
-  not-refused [] n e = refl
-  not-refused (r ∷ rows) n e = not-here r rows (n .0) (not-refused rows (n .1)) (r .broken) e
+pub not-refused : (rows : List Row) → Numbered rows → isRefusal (firstOf rows) ≡ false → firstOf rows ≡ accepted
+unfolding firstOf
+not-refused [] n e = refl
+not-refused (r ∷ rows) n e = not-here r rows (n .0) (not-refused rows (n .1)) (r .broken) e
 
 -- a table in two parts: the first part decides, else the second
-module _ (place : ℕ) where
-  part-here : (r : Row) (rows more : List Row) → 1 ≤ r .number → firstOf place (rows ++ more) ≡ orElse (firstOf place rows) (firstOf place more)
-      → (b : Bool) → refuse b (refusalAt (r .number) place) (firstOf place (rows ++ more)) ≡ orElse (refuse b (refusalAt (r .number) place) (firstOf place rows)) (firstOf place more)
-  unfolding refuse
-  part-here r rows more n rest true = else-stop (refusalAt (r .number) place) (firstOf place more) (rw (ne-eqb (r .number) 0 (λ (e : r .number ≡ 0). omega arith)))
-  part-here r rows more n rest false = rest
+part-here : (r : Row) (rows more : List Row) → 1 ≤ r .number → firstOf (rows ++ more) ≡ orElse (firstOf rows) (firstOf more)
+    → (b : Bool) → refuse b (toldBy r) (firstOf (rows ++ more)) ≡ orElse (refuse b (toldBy r) (firstOf rows)) (firstOf more)
+unfolding refuse
+part-here r rows more n rest true = else-stop (toldBy r) (firstOf more) (rw (ne-eqb (r .number) 0 (λ (e : r .number ≡ 0). omega arith)))
+part-here r rows more n rest false = rest
 
-  pub in-parts : (rows more : List Row) → Numbered rows → firstOf place (rows ++ more) ≡ orElse (firstOf place rows) (firstOf place more)
-  unfolding firstOf
-  in-parts [] more n = else-go accepted (firstOf place more) refl refl
-  in-parts (r ∷ rows) more n = part-here r rows more (n .0) (in-parts rows more (n .1)) (r .broken)
+pub in-parts : (rows more : List Row) → Numbered rows → firstOf (rows ++ more) ≡ orElse (firstOf rows) (firstOf more)
+unfolding firstOf
+in-parts [] more n = else-go accepted (firstOf more) refl refl
+in-parts (r ∷ rows) more n = part-here r rows more (n .0) (in-parts rows more (n .1)) (r .broken)
 
 -- an answer of two: the first where it refuses, else the second
 pub else-either : (a b : Answer) → ((isRefusal a ≡ true) × (orElse a b ≡ a)) ⊎ ((isRefusal a ≡ false) × (orElse a b ≡ b))
@@ -175,7 +174,7 @@ module _ (m p : ℕ) where
   unfolding orElse
   within-else a b h g = within-refuse (isRefusal a) a b h g
 
-  pub within-first : (place : ℕ) (rows : List Row) → place ≤ p → Every (λ (r : Row). r .number ≤ m) rows → Within m p (firstOf place rows)
+  pub within-first : (rows : List Row) → Every (λ (r : Row). (r .number ≤ m) × (r .place ≤ p)) rows → Within m p (firstOf rows)
   unfolding firstOf
-  within-first place [] h e = (omega arith, omega arith)
-  within-first place (r ∷ rows) h e = within-refuse (r .broken) (refusalAt (r .number) place) (firstOf place rows) (e .0, h) (within-first place rows h (e .1))
+  within-first [] e = (omega arith, omega arith)
+  within-first (r ∷ rows) e = within-refuse (r .broken) (toldBy r) (firstOf rows) (e .0) (within-first rows (e .1))

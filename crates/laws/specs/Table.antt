@@ -1,4 +1,5 @@
--- A table of refusals: rows that are tried in their order, each a number and whether its fault is there.
+-- A table of refusals: rows that are tried in their order, each a number, the place that is told with it and whether its fault is there.
+-- The place is 0 for a refusal of the call, an index for one of a list's parts, a line for one of a text.
 -- Assumes nothing.
 use Prim.Native.Nat.{ℕ}
 use mathlib.Core.Bool.{Bool, not}
@@ -16,15 +17,20 @@ refusalAt n place = record { number = n; values = place ∷ [] }
 
 pub record Row : Type 0 where
   pub number : ℕ
+  pub place : ℕ
   pub broken : Bool
 
-abbrev pub row : ℕ → Bool → Row
-row n b = record { number = n; broken = b }
+abbrev pub row : ℕ → ℕ → Bool → Row
+row n place b = record { number = n; place = place; broken = b }
 
--- the first row that is broken decides, at the given place
-unfoldable pub firstOf : ℕ → List Row → Answer
-firstOf place [] = accepted
-firstOf place (r ∷ rows) = refuse (r .broken) (refusalAt (r .number) place) (firstOf place rows)
+-- the refusal that a broken row gives
+abbrev pub toldBy : Row → Answer
+toldBy r = refusalAt (r .number) (r .place)
+
+-- the first row that is broken decides
+unfoldable pub firstOf : List Row → Answer
+firstOf [] = accepted
+firstOf (r ∷ rows) = refuse (r .broken) (toldBy r) (firstOf rows)
 
 -- whether an answer is a refusal
 abbrev pub isRefusal : Answer → Bool

@@ -17,13 +17,14 @@ use Rattle.laws.specs.Table.{isRefusal}
 use Rattle.notices.specs.Notices.{countOf, noticeAt}
 use Rattle.notices.specs.declared.profiles.Profile.the-variants.{Credit}
 use Rattle.schedule.proofs.Accepted.{accepted-iff-lawful}
+use Rattle.laws.proofs.RowLaws.{rows-long}
 use Rattle.money.specs.Lines.{eventAt, centsAt, linesTo}
 use Rattle.money.specs.Printed.{codeIn, placeIn, energyIn, centsIn, runOf}
 use Rattle.money.specs.Refusals.{refusalOf}
 use Rattle.money.specs.Settlement.{settlement, linesIn, written}
 use Rattle.money.specs.Worth.{centParts, exactWorth, roundedWorth}
 use Rattle.money.specs.declared.lines.Event.{Event}
-use Rattle.money.proofs.LineLaws.{cents-next, lines-long}
+use Rattle.money.proofs.LineLaws.{cents-next, line-wide}
 use Rattle.money.proofs.RefusalLaws.{settlement-right, list-accepted}
 use Rattle.money.proofs.Runs.{run-same, energy-first, cents-first, events-near, events-near-first, code-is, place-is, energy-is, cents-is}
 use Rattle.money.proofs.SettlementLaws.{number-is, settled-accepted, written-accepted}
@@ -89,4 +90,4 @@ module _ (w p : ℕ) (book l out : List ℕ) (ok : settlement w book p l (length
 
   -- "Numbers past the last line are untouched."
   pub past-untouched : drop (4 * n) output ≡ drop (4 * n) out
-  past-untouched = rw output-is (drop-at (linesTo p events n) (drop (4 * n) out) (4 * n) (lines-long p events n))
+  past-untouched = rw output-is (drop-at (linesTo p events n) (drop (4 * n) out) (4 * n) (rows-long (line-wide p events) n))

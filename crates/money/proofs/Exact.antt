@@ -6,9 +6,10 @@ use mathlib.Core.Bool.{true, false}
 use mathlib.Core.List.{List}
 use mathlib.Core.Logic.{_⊎_, ⊎-elim, inl, inr, _↔_}
 use mathlib.Core.Path.{_≡_, refl, sym, ap, _∙_}
+use native.Mathlib.Omega.{arith}
 use lib.ListN.{length, getD}
 use Rattle.dates.specs.Winters.{days}
-use Rattle.laws.proofs.Tables.{BrokenAt, first-broken, else-either}
+use Rattle.laws.proofs.Tables.{FirstBroken, first-broken, place-of-all, else-either}
 use Rattle.laws.specs.Table.{Row, firstOf, isRefusal}
 use Rattle.notices.specs.Notices.{countOf}
 use Rattle.notices.specs.Profiles.{figuresOf}
@@ -40,7 +41,7 @@ accepted-iff-settles w p book l room = (
 
 -- the first broken row of the call, at place 0
 pub record ByCall (w p : ℕ) (book l out : List ℕ) : Type 0 where
-  pub broken : BrokenAt 0 (callRows w (length book) p (length l) (length out))
+  pub broken : FirstBroken (callRows w (length book) p (length l) (length out))
   pub answer : settlement w book p l (length out) ≡ refusedWith (broken .number) 0
 
 -- or else what the list check refuses under profile 1, past a call that is right
@@ -53,12 +54,16 @@ module _ (w p : ℕ) (book l out : List ℕ) (e : isRefusal (refusalOf w (length
   abbrev rows : List Row
   rows = callRows w (length book) p (length l) (length out)
 
-  by-call : isRefusal (firstOf 0 rows) ≡ true → refusalOf w (length book) p l (length out) ≡ firstOf 0 rows → ByCall w p book l out
-  by-call q a =
-      let b = first-broken 0 rows q in
-      record { broken = b; answer = settled-by w p book l (length out) e ∙ rw (a, b .answer) refl }
+  call-place : (b : FirstBroken rows) → b .place ≡ 0
+  unfolding callRows
+  call-place = place-of-all 0 (omega arith)
 
-  by-notices : isRefusal (firstOf 0 rows) ≡ false → refusalOf w (length book) p l (length out) ≡ checkAnswer w 1 l → ByNotices w p book l out
+  by-call : isRefusal (firstOf rows) ≡ true → refusalOf w (length book) p l (length out) ≡ firstOf rows → ByCall w p book l out
+  by-call q a =
+      let b = first-broken rows q in
+      record { broken = b; answer = settled-by w p book l (length out) e ∙ rw (a, b .answer, call-place b) refl }
+
+  by-notices : isRefusal (firstOf rows) ≡ false → refusalOf w (length book) p l (length out) ≡ checkAnswer w 1 l → ByNotices w p book l out
   by-notices q a =
       record {
         call = call-right w (length book) p (length l) (length out) q;
@@ -68,7 +73,7 @@ module _ (w p : ℕ) (book l out : List ℕ) (e : isRefusal (refusalOf w (length
 
   pub first-refusal-of : ByCall w p book l out ⊎ ByNotices w p book l out
   unfolding refusalOf
-  first-refusal-of = ⊎-elim (λ x. inl (by-call (x .0) (x .1))) (λ x. inr (by-notices (x .0) (x .1))) (else-either (firstOf 0 rows) (checkAnswer w 1 l))
+  first-refusal-of = ⊎-elim (λ x. inl (by-call (x .0) (x .1))) (λ x. inr (by-notices (x .0) (x .1))) (else-either (firstOf rows) (checkAnswer w 1 l))
 
   -- "write nothing; totals beside a refusal are 0"
   pub refused-untouched : written w book p l out ≡ out

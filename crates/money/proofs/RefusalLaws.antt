@@ -28,39 +28,39 @@ use Rattle.schedule.specs.ListCheck.{badList, checkedIn, checkAnswer}
 use Rattle.money.specs.Refusals.{badBook, badPrice, shortOutput, callRows, refusalOf}
 
 module _ (w readings p numbers room : ℕ) where
-  pub winter-refused : noWinter w ≡ true → refusalAt 1 0 ≡ firstOf 0 (callRows w readings p numbers room)
+  pub winter-refused : noWinter w ≡ true → refusalAt 1 0 ≡ firstOf (callRows w readings p numbers room)
   unfolding callRows
-  winter-refused e = row-stops _ _ _ e
+  winter-refused e = row-stops _ _ e
 
   module _ (r : Days) (count : ℕ) (q : r ≡ Are count) (e : daysPaper r ≡ winterDays w) where
-    pub book-refused : (readings ≡ 24 * count → ⊥) → refusalAt 2 0 ≡ firstOf 0 (callRows w readings p numbers room)
+    pub book-refused : (readings ≡ 24 * count → ⊥) → refusalAt 2 0 ≡ firstOf (callRows w readings p numbers room)
     unfolding callRows badBook
     book-refused f =
         let wrong : not (eqb readings (24 * days w)) ≡ true = rw (ne-eqb readings (24 * days w) (λ (x : readings ≡ 24 * days w). f (omega (arith, winter-count w count r q e)))) in
-        row-goes _ _ _ (is-winter w count r q e) (row-stops _ _ _ wrong)
+        row-goes _ _ (is-winter w count r q e) (row-stops _ _ wrong)
 
     module _ (b : readings ≡ 24 * count) where
       right-book : badBook w readings ≡ false
       unfolding badBook
       right-book = rw (eq-eqb readings (24 * days w) (omega (arith, winter-count w count r q e)))
 
-      pub price-refused : badPrice p ≡ true → refusalAt 3 0 ≡ firstOf 0 (callRows w readings p numbers room)
+      pub price-refused : badPrice p ≡ true → refusalAt 3 0 ≡ firstOf (callRows w readings p numbers room)
       unfolding callRows
-      price-refused f = row-goes _ _ _ (is-winter w count r q e) (row-goes _ _ _ right-book (row-stops _ _ _ f))
+      price-refused f = row-goes _ _ (is-winter w count r q e) (row-goes _ _ right-book (row-stops _ _ f))
 
       module _ (m : badPrice p ≡ false) where
-        pub list-refused : badList numbers ≡ true → refusalAt 4 0 ≡ firstOf 0 (callRows w readings p numbers room)
+        pub list-refused : badList numbers ≡ true → refusalAt 4 0 ≡ firstOf (callRows w readings p numbers room)
         unfolding callRows
-        list-refused f = row-goes _ _ _ (is-winter w count r q e) (row-goes _ _ _ right-book (row-goes _ _ _ m (row-stops _ _ _ f)))
+        list-refused f = row-goes _ _ (is-winter w count r q e) (row-goes _ _ right-book (row-goes _ _ m (row-stops _ _ f)))
 
         module _ (l : badList numbers ≡ false) where
-          pub output-refused : shortOutput numbers room ≡ true → refusalAt 6 0 ≡ firstOf 0 (callRows w readings p numbers room)
+          pub output-refused : shortOutput numbers room ≡ true → refusalAt 6 0 ≡ firstOf (callRows w readings p numbers room)
           unfolding callRows
-          output-refused f = row-goes _ _ _ (is-winter w count r q e) (row-goes _ _ _ right-book (row-goes _ _ _ m (row-goes _ _ _ l (row-stops _ _ _ f))))
+          output-refused f = row-goes _ _ (is-winter w count r q e) (row-goes _ _ right-book (row-goes _ _ m (row-goes _ _ l (row-stops _ _ f))))
 
-          pub none-refused : shortOutput numbers room ≡ false → refusalAt 0 0 ≡ firstOf 0 (callRows w readings p numbers room)
+          pub none-refused : shortOutput numbers room ≡ false → refusalAt 0 0 ≡ firstOf (callRows w readings p numbers room)
           unfolding callRows
-          none-refused f = row-goes _ _ _ (is-winter w count r q e) (row-goes _ _ _ right-book (row-goes _ _ _ m (row-goes _ _ _ l (row-goes _ _ _ f (rows-end _)))))
+          none-refused f = row-goes _ _ (is-winter w count r q e) (row-goes _ _ right-book (row-goes _ _ m (row-goes _ _ l (row-goes _ _ f rows-end))))
 
 -- what holds of a call that is not refused
 pub record RightCall (w readings p numbers room : ℕ) : Type 0 where
@@ -73,13 +73,13 @@ pub record RightCall (w readings p numbers room : ℕ) : Type 0 where
 
 rows-numbered : (w readings p numbers room : ℕ) → Numbered (callRows w readings p numbers room)
 unfolding callRows
-rows-numbered w readings p numbers room = (omega arith, (omega arith, (omega arith, (omega arith, (omega arith, tt)))))
+rows-numbered w readings p numbers room = omega arith
 
-pub call-right : (w readings p numbers room : ℕ) → isRefusal (firstOf 0 (callRows w readings p numbers room)) ≡ false → RightCall w readings p numbers room
+pub call-right : (w readings p numbers room : ℕ) → isRefusal (firstOf (callRows w readings p numbers room)) ≡ false → RightCall w readings p numbers room
 unfolding callRows badBook badPrice shortOutput
 call-right w readings p numbers room e =
     let rows = callRows w readings p numbers room in
-    let n = accepted-none 0 rows (rows-numbered w readings p numbers room) (not-refused 0 rows (rows-numbered w readings p numbers room) e) in
+    let n = accepted-none rows (rows-numbered w readings p numbers room) (not-refused rows (rows-numbered w readings p numbers room) e) in
     let prices = neither (ltb p 1) (ltb 1000000 p) (n .1 .1 .0) in
     record {
       winter = winter-range w .0 (n .0);
@@ -91,7 +91,7 @@ call-right w readings p numbers room e =
     }
 
 -- a call's refusal decides, else that of the notices
-module _ (w readings p : ℕ) (l : List ℕ) (room number : ℕ) (e : refusalAt number 0 ≡ firstOf 0 (callRows w readings p (length l) room)) where
+module _ (w readings p : ℕ) (l : List ℕ) (room number : ℕ) (e : refusalAt number 0 ≡ firstOf (callRows w readings p (length l) room)) where
   pub refusal-call : (number ≡ 0 → ⊥) → refusalAt number 0 ≡ refusalOf w readings p l room
   unfolding refusalOf
   refusal-call f = rw (← e) (else-stop (refusalAt number 0) (checkAnswer w 1 l) (rw (ne-eqb number 0 f)))
@@ -106,9 +106,9 @@ module _ (w readings p : ℕ) (l : List ℕ) (room number : ℕ) (e : refusalAt 
 
 -- a settlement that is not refused: the call is right, and the list check accepts the list
 module _ (w readings p : ℕ) (l : List ℕ) (room : ℕ) (e : isRefusal (refusalOf w readings p l room) ≡ false) where
-  parts : (isRefusal (firstOf 0 (callRows w readings p (length l) room)) ≡ false) × (isRefusal (checkAnswer w 1 l) ≡ false)
+  parts : (isRefusal (firstOf (callRows w readings p (length l) room)) ≡ false) × (isRefusal (checkAnswer w 1 l) ≡ false)
   unfolding refusalOf
-  parts = else-none (firstOf 0 (callRows w readings p (length l) room)) (checkAnswer w 1 l) e
+  parts = else-none (firstOf (callRows w readings p (length l) room)) (checkAnswer w 1 l) e
 
   pub settlement-right : RightCall w readings p (length l) room
   settlement-right = call-right w readings p (length l) room (parts .0)
@@ -123,24 +123,24 @@ unfolding refusalOf callRows badBook badPrice shortOutput
 right-accepted w readings p l room s e =
     let prices : (ltb p 1 || ltb 1000000 p) ≡ false = rw (le-ltb p 1 (s .price .0), le-ltb 1000000 p (s .price .1)) refl in
     let book : not (eqb readings (24 * days w)) ≡ false = rw (eq-eqb readings (24 * days w) (s .book)) refl in
-    let rows : firstOf 0 (callRows w readings p (length l) room) ≡ accepted =
-    none-accepted 0 (callRows w readings p (length l) room)
+    let rows : firstOf (callRows w readings p (length l) room) ≡ accepted =
+    none-accepted (callRows w readings p (length l) room)
     (winter-range w .1 (s .winter), (book, (prices, (whole-test (length l) (s .whole) (s .few), (le-ltb room (4 * (length l / 3)) (s .room-for), tt))))) in
     rw (rows, ← else-go accepted (checkAnswer w 1 l) refl refl, e) refl
 
 -- numbers are at most 18, places at most 100
-rows-within : (w readings p numbers room : ℕ) → Within 18 100 (firstOf 0 (callRows w readings p numbers room))
+rows-within : (w readings p numbers room : ℕ) → Within 18 100 (firstOf (callRows w readings p numbers room))
 unfolding callRows
 rows-within w readings p numbers room =
-    within-first 18 100 0 (callRows w readings p numbers room) (omega arith) (omega arith, (omega arith, (omega arith, (omega arith, (omega arith, tt)))))
+    within-first 18 100 (callRows w readings p numbers room) (omega arith)
 
-pub call-within : (w readings p numbers room number : ℕ) → refusalAt number 0 ≡ firstOf 0 (callRows w readings p numbers room) → number ≤ 18
+pub call-within : (w readings p numbers room number : ℕ) → refusalAt number 0 ≡ firstOf (callRows w readings p numbers room) → number ≤ 18
 call-within w readings p numbers room number e = subst (Within 18 100) (sym e) (rows-within w readings p numbers room) .0
 
 pub refusal-within : (w readings p : ℕ) (l : List ℕ) (room : ℕ) → Within 18 100 (refusalOf w readings p l room)
 unfolding refusalOf
 refusal-within w readings p l room =
-    within-else 18 100 (firstOf 0 (callRows w readings p (length l) room)) (checkAnswer w 1 l) (rows-within w readings p (length l) room) (check-within w l 1)
+    within-else 18 100 (firstOf (callRows w readings p (length l) room)) (checkAnswer w 1 l) (rows-within w readings p (length l) room) (check-within w l 1)
 
 -- of the output's length only its room for the lines counts
 pub refusal-room : (w readings p : ℕ) (l : List ℕ) (a b : ℕ) → 4 * countOf l ≤ a → 4 * countOf l ≤ b → refusalOf w readings p l a ≡ refusalOf w readings p l b

@@ -6,11 +6,12 @@ use mathlib.Core.List.{List, _++_}
 use mathlib.Core.Path.{_≡_, refl, sym}
 use native.Mathlib.Nat.{add-zero, add-suc, zero-add}
 use native.Mathlib.Omega.{arith}
+use Rattle.laws.proofs.RowLaws.{row-in}
 use Rattle.money.specs.Lines.{energyTo, centsAt, lineAt, linesTo}
 use Rattle.money.specs.Printed.{codeIn, placeIn, energyIn, centsIn, runOf}
 use Rattle.money.specs.Worth.{centParts, exactWorth, roundedWorth}
 use Rattle.money.specs.declared.lines.Event.{Event}
-use Rattle.money.proofs.LineLaws.{energy-next, cents-next, line-in}
+use Rattle.money.proofs.LineLaws.{energy-next, cents-next, line-wide}
 use Rattle.money.proofs.WorthLaws.{Near, NearHalf, between-near, first-near, worth-zero}
 
 -- two things that are the same at each line of a run have the same sum
@@ -59,16 +60,16 @@ module _ (p : ℕ) (events : ℕ → Event) where
   module _ (rest : List ℕ) (n k : ℕ) (h : k < n) where
     pub code-is : codeIn (linesTo p events n ++ rest) k ≡ events k .code
     unfolding lineAt
-    code-is = rw (← add-zero (4 * k)) (line-in p events rest n k 0 h (omega arith))
+    code-is = rw (← add-zero (4 * k)) (row-in (line-wide p events) rest n k 0 h (omega arith))
 
     pub place-is : placeIn (linesTo p events n ++ rest) k ≡ events k .place
     unfolding lineAt
-    place-is = line-in p events rest n k 1 h (omega arith)
+    place-is = row-in (line-wide p events) rest n k 1 h (omega arith)
 
     pub energy-is : energyIn (linesTo p events n ++ rest) k ≡ events k .energy
     unfolding lineAt
-    energy-is = line-in p events rest n k 2 h (omega arith)
+    energy-is = row-in (line-wide p events) rest n k 2 h (omega arith)
 
     pub cents-is : centsIn (linesTo p events n ++ rest) k ≡ centsAt p events k
     unfolding lineAt
-    cents-is = line-in p events rest n k 3 h (omega arith)
+    cents-is = row-in (line-wide p events) rest n k 3 h (omega arith)

@@ -143,7 +143,7 @@ module _ (w p : ℕ) (book l : List ℕ) (room : ℕ) where
     settled-refused f = sym (settled-by (is-refused f) ∙ rw (← e) refl)
 
   -- a call that its winter, price or lengths refuse
-  pub call-refused : (number : ℕ) → refusalAt number 0 ≡ firstOf 0 (callRows w (length book) p (length l) room) → (number ≡ 0 → ⊥)
+  pub call-refused : (number : ℕ) → refusalAt number 0 ≡ firstOf (callRows w (length book) p (length l) room) → (number ≡ 0 → ⊥)
       → refusedWith number 0 ≡ settlement w book p l room
   call-refused number e f = settled-refused number 0 (refusal-call w (length book) p l room number e f) f
 

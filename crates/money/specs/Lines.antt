@@ -1,7 +1,7 @@
 -- The lines of a settlement: four numbers a notice.
 -- Assumes nothing.
 use Prim.Native.Nat.{ℕ, zero, suc, _+_, _-_}
-use mathlib.Core.List.{List, [], _∷_, _++_}
+use mathlib.Core.List.{List, [], _∷_}
 use lib.ListN.{getD}
 use Rattle.energy.specs.Line.{eventAnswer}
 use Rattle.calendar.specs.WinterOf.{winterOf}
@@ -9,6 +9,7 @@ use Rattle.calendar.specs.declared.answers.Winter.{Winter}
 use Rattle.event_hours.specs.Days.{masksOf}
 use Rattle.event_hours.specs.Events.{eventOn}
 use Rattle.laws.specs.Answer.{Answer}
+use Rattle.laws.specs.Rows.{rowsTo}
 use Rattle.notices.specs.Notices.{noticeAt}
 use Rattle.money.specs.Worth.{roundedWorth}
 use Rattle.money.specs.declared.lines.Event.{Event}
@@ -39,6 +40,5 @@ unfoldable pub lineAt : ℕ → (ℕ → Event) → ℕ → List ℕ
 lineAt p events k = events k .code ∷ events k .place ∷ events k .energy ∷ centsAt p events k ∷ []
 
 -- the first k lines
-unfoldable pub linesTo : ℕ → (ℕ → Event) → ℕ → List ℕ
-linesTo p events zero = []
-linesTo p events (suc k) = linesTo p events k ++ lineAt p events k
+abbrev pub linesTo : ℕ → (ℕ → Event) → ℕ → List ℕ
+linesTo p events = rowsTo (lineAt p events)

@@ -26,13 +26,13 @@ shortOutput numbers room = ltb room (4 * (numbers / 3))
 -- by winter and price, and by how many numbers the book, the list and the output have
 unfoldable pub callRows : ℕ → ℕ → ℕ → ℕ → ℕ → List Row
 callRows w readings p numbers room =
-    row 1 (noWinter w)
-    ∷ row 2 (badBook w readings)
-    ∷ row 3 (badPrice p)
-    ∷ row 4 (badList numbers)
-    ∷ row 6 (shortOutput numbers room)
+    row 1 0 (noWinter w)
+    ∷ row 2 0 (badBook w readings)
+    ∷ row 3 0 (badPrice p)
+    ∷ row 4 0 (badList numbers)
+    ∷ row 6 0 (shortOutput numbers room)
     ∷ []
 
 -- past 1 and 4 the list check under profile 1 has only the notices left to refuse; no reading is looked at
 unfoldable pub refusalOf : ℕ → ℕ → ℕ → List ℕ → ℕ → Answer
-refusalOf w readings p l room = orElse (firstOf 0 (callRows w readings p (length l) room)) (checkAnswer w 1 l)
+refusalOf w readings p l room = orElse (firstOf (callRows w readings p (length l) room)) (checkAnswer w 1 l)

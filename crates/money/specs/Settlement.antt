@@ -2,12 +2,13 @@
 -- Assumes nothing.
 use Prim.Native.Nat.{ℕ, _*_, _≤_}
 use mathlib.Core.Bool.{cond}
-use mathlib.Core.List.{List, _++_}
-use lib.ListN.{length, getD, drop}
+use mathlib.Core.List.{List}
+use lib.ListN.{length, getD}
 use Rattle.laws.specs.Answer.{Answer}
+use Rattle.laws.specs.Rows.{rowsOver}
 use Rattle.laws.specs.Table.{isRefusal}
 use Rattle.notices.specs.Notices.{countOf}
-use Rattle.money.specs.Lines.{eventAt, energyTo, linesTo}
+use Rattle.money.specs.Lines.{eventAt, energyTo, lineAt}
 use Rattle.money.specs.Refusals.{refusalOf}
 use Rattle.money.specs.Worth.{roundedWorth}
 use Rattle.money.specs.declared.lines.Event.{Event}
@@ -23,7 +24,7 @@ totalsOf p events n = record { number = 0; place = 0; energy = energyTo events n
 
 -- "Numbers past the last line are untouched."
 abbrev pub linesIn : ℕ → (ℕ → Event) → ℕ → List ℕ → List ℕ
-linesIn p events n out = linesTo p events n ++ drop (4 * n) out
+linesIn p events n out = rowsOver 4 (lineAt p events) n out
 
 -- "Whole-call refusals return the number and a place, and write nothing"
 unfoldable pub settledBy : Answer → ℕ → (ℕ → Event) → ℕ → Settlement

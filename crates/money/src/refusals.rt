@@ -21,7 +21,7 @@ fn short_output(numbers: usize, room: usize) -> bool
 // The number by which a settlement is refused whatever its readings and notices are, 0 if it is not: by winter and price, and by how many
 // numbers the book, the list and the output have.
 pub fn call_refusal(winter: u32, readings: usize, price: u32, numbers: usize, room: usize) -> u32
-    ensures { λ r. ⌜ refusalAt r 0 ≡ firstOf 0 (callRows winter readings price numbers room) ⌝ }
+    ensures { λ r. ⌜ refusalAt r 0 ≡ firstOf (callRows winter readings price numbers room) ⌝ }
 {
     let days = dates::winter_days(winter);
     let Days::Are(count) = days else {

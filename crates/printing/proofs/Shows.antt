@@ -4,13 +4,13 @@
 use Prim.Native.Nat.{ℕ, zero, suc, _*_, _<_}
 use mathlib.Core.Bool.{Bool, true, false}
 use mathlib.Core.List.{List, [], _∷_, _++_}
-use mathlib.Core.Logic.{⊎-elim}
 use mathlib.Core.Path.{_≡_, refl, sym, ap, _∙_}
-use native.Mathlib.Nat.{eq-or-lt-of-le, le-of-suc-le-suc}
-use native.Mathlib.Omega.{arith}
-use lib.ListN.{length, take, drop, length-append}
-use lib.Seq.{take-at, drop-at}
+use lib.ListN.{length, take, drop}
+use lib.Seq.{take-at}
+use Rattle.laws.proofs.RowLaws.{Wide, rows-none, rows-more, rows-long, rows-same, parts-same}
+use Rattle.laws.specs.Rows.{rowsTo}
 use Rattle.notices.specs.Notices.{countOf}
+use Rattle.numerals.specs.Lines.{Line}
 use Rattle.numerals.specs.Numbers.{numbersIn, numbersOfLines, plainKeys}
 use Rattle.numerals.proofs.ReadBack.{read-back, above-plain, plain-append, numbers-none, numbers-one, numbers-more, numbers-append}
 use Rattle.printing.specs.Room.{printed, printedCount}
@@ -36,20 +36,29 @@ abbrev pub shownNumbers : ℕ → ℕ → List ℕ → List ℕ → ℕ → ℕ 
 shownNumbers w p l out energy cents = w ∷ p ∷ countOf l ∷ (numbersOfLines (noticeLines l out (countOf l)) ++ (energy ∷ cents ∷ []))
 
 module _ (l out : List ℕ) where
-  lines-plain : (k : ℕ) → plainKeys (noticeLines l out k) ≡ true
-  unfolding noticeLines noticeLine
-  lines-plain zero = above-plain [] refl
-  lines-plain (suc k) = plain-append (noticeLines l out k) _ (lines-plain k) (above-plain (noticeLine l out k ∷ []) refl)
+  abbrev lineRow : ℕ → List Line
+  lineRow k = noticeLine l out k ∷ []
 
-  -- one notice more has its seven numbers behind those before
-  seven-more : (k : ℕ) → numbersOfLines (noticeLines l out (suc k)) ≡ numbersOfLines (noticeLines l out k) ++ noticeLine l out k .numbers
-  unfolding noticeLines
-  seven-more k = numbers-append (noticeLines l out k) (noticeLine l out k ∷ []) ∙ rw (numbers-one (noticeLine l out k))
+  abbrev numberRow : ℕ → List ℕ
+  numberRow k = noticeLine l out k .numbers
+
+  lines-plain : (k : ℕ) → plainKeys (noticeLines l out k) ≡ true
+  unfolding noticeLine
+  lines-plain zero = rw (rows-none lineRow) (above-plain [] refl)
+  lines-plain (suc k) = rw (rows-more lineRow k) (plain-append (noticeLines l out k) (lineRow k) (lines-plain k) (above-plain (lineRow k) refl))
+
+  -- the numbers of the lines are rows of seven
+  sevens : (k : ℕ) → numbersOfLines (noticeLines l out k) ≡ rowsTo numberRow k
+  sevens zero = rw (rows-none lineRow, rows-none numberRow) numbers-none
+  sevens (suc k) =
+      rw (rows-more lineRow k, rows-more numberRow k, numbers-append (noticeLines l out k) (lineRow k), numbers-one (noticeLine l out k), sevens k)
+
+  seven-wide : Wide 7 numberRow
+  unfolding noticeLine
+  seven-wide = record { long = λ k. refl }
 
   sevens-long : (k : ℕ) → length (numbersOfLines (noticeLines l out k)) ≡ 7 * k
-  unfolding noticeLines noticeLine
-  sevens-long zero = ap length numbers-none
-  sevens-long (suc k) = rw (seven-more k) (simp length-append (omega (arith, sevens-long k)))
+  sevens-long k = ap length (sevens k) ∙ rows-long seven-wide k
 
 module _ (w p : ℕ) (l out : List ℕ) (energy cents : ℕ) where
   statement-plain : plainKeys (statementLines w p l out energy cents) ≡ true
@@ -63,21 +72,11 @@ module _ (w p : ℕ) (l out : List ℕ) (energy cents : ℕ) where
   statement-numbers =
       read-back (statementLines w p l out energy cents) statement-plain ∙ simp (numbers-one, numbers-more, numbers-append)
 
--- two lists of two parts, the first parts of one length
-parts : (xs ys us vs : List ℕ) → length xs ≡ length us → xs ++ ys ≡ us ++ vs → (xs ≡ us) × (ys ≡ vs)
-parts xs ys us vs n e = (
-  sym (take-at xs ys (length xs) refl) ∙ ap (take (length xs)) e ∙ take-at us vs (length xs) (sym n),
-  sym (drop-at xs ys (length xs) refl) ∙ ap (drop (length xs)) e ∙ drop-at us vs (length xs) (sym n),
-)
-
 module _ (l l′ out out′ : List ℕ) where
   -- equal numbers of n notices are equal notice by notice
   sevens-same : (n k : ℕ) → k < n → numbersOfLines (noticeLines l out n) ≡ numbersOfLines (noticeLines l′ out′ n)
       → noticeLine l out k .numbers ≡ noticeLine l′ out′ k .numbers
-  sevens-same zero k h e = absurd (omega arith)
-  sevens-same (suc n) k h e =
-      let s = parts _ _ _ _ (sevens-long l out n ∙ sym (sevens-long l′ out′ n)) (sym (seven-more l out n) ∙ e ∙ seven-more l′ out′ n) in
-      ⊎-elim (λ (q : k ≡ n). rw q (s .1)) (λ (q : k < n). sevens-same n k q (s .0)) (eq-or-lt-of-le (le-of-suc-le-suc h))
+  sevens-same n k h e = rows-same (seven-wide l out) (seven-wide l′ out′) n k h (sym (sevens l out n) ∙ e ∙ sevens l′ out′ n)
 
   -- equal statements: winter, price and totals are equal, and there are as many notices, with the same seven numbers each
   pub statement-same : (w w′ p p′ energy energy′ cents cents′ : ℕ) → statementBytes w p l out energy cents ≡ statementBytes w′ p′ l′ out′ energy′ cents′
@@ -94,6 +93,6 @@ module _ (l l′ out out′ : List ℕ) where
       let ys = numbersOfLines (noticeLines l′ out′ (countOf l′)) in
       let n : countOf l ≡ countOf l′ = cc in
       let long : length xs ≡ length ys = sevens-long l out (countOf l) ∙ ap (λ (k : ℕ). 7 * k) n ∙ sym (sevens-long l′ out′ (countOf l′)) in
-      let q = parts xs (energy ∷ cents ∷ []) ys (energy′ ∷ cents′ ∷ []) long (cc) in
+      let q = parts-same xs (energy ∷ cents ∷ []) ys (energy′ ∷ cents′ ∷ []) long (cc) in
       let t = q .1 in
       (cc, cc, n, λ k h. sevens-same (countOf l) k h (q .0 ∙ ap (λ (m : ℕ). numbersOfLines (noticeLines l′ out′ m)) (sym n)), cc, cc)

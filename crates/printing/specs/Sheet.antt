@@ -1,7 +1,8 @@
 -- What is printed: the statement of a settlement, or the line of a refused text.
 -- Assumes nothing.
-use Prim.Native.Nat.{ℕ, zero, suc}
+use Prim.Native.Nat.{ℕ}
 use mathlib.Core.List.{List, [], _∷_, _++_}
+use Rattle.laws.specs.Rows.{rowsTo}
 use Rattle.notices.specs.Notices.{countOf, noticeAt}
 use Rattle.numerals.specs.Lines.{Line, line, bytesOfLines}
 use Rattle.printing.specs.Settled.{settledIn, lineFor}
@@ -15,9 +16,8 @@ unfoldable pub noticeLine : List ℕ → List ℕ → ℕ → Line
 noticeLine l out k = lineFor (noticeAt l k) (settledIn out k)
 
 -- "one `line=` for each notice", of the first k
-unfoldable pub noticeLines : List ℕ → List ℕ → ℕ → List Line
-noticeLines l out zero = []
-noticeLines l out (suc k) = noticeLines l out k ++ (noticeLine l out k ∷ [])
+abbrev pub noticeLines : List ℕ → List ℕ → ℕ → List Line
+noticeLines l out = rowsTo (λ (k : ℕ). noticeLine l out k ∷ [])
 
 -- "winter, price and number of notices as read, one `line=` for each notice, then total energy and total cents."
 unfoldable pub statementLines : ℕ → ℕ → List ℕ → List ℕ → ℕ → ℕ → List Line

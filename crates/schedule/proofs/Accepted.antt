@@ -1,5 +1,5 @@
 -- Demand 2, both directions: a list is accepted under a profile exactly when it is lawful by the profile's figures.
--- The walk accepts exactly when no notice is refused, by recursion on how many are left.
+-- The walk accepts exactly when no notice is refused.
 -- Assumes nothing.
 use Prim.Native.Nat.{ℕ, zero, suc, _+_, _-_, _/_, _%_, _≤_, _<_}
 use mathlib.Core.Bool.{false, true≢false}
@@ -14,8 +14,10 @@ use Rattle.calendar.specs.WinterOf.{winterOf}
 use Rattle.dates.proofs.Promise.{winter-range}
 use Rattle.dates.specs.Winters.{noWinter}
 use Rattle.laws.proofs.Refusals.{kept}
-use Rattle.laws.proofs.Tables.{refuse-accepted, refuse-none, else-go, else-none, else-accepted}
+use Rattle.laws.proofs.Tables.{refuse-accepted, refuse-none}
+use Rattle.laws.proofs.Walks.{accepted-iff-clear, walk-accepted}
 use Rattle.laws.specs.Table.{accepted, refusalAt, isRefusal}
+use Rattle.laws.specs.Walk.{walk}
 use Rattle.notices.proofs.HourLaws.{hours-iff, long-iff}
 use Rattle.notices.proofs.NoticeLaws.{hours-none, hours-next, hours-grow}
 use Rattle.notices.proofs.ProfileLaws.{named-number}
@@ -27,7 +29,7 @@ use Rattle.notices.specs.declared.profiles.Named.the-variants.{Is, NoProfile}
 use Rattle.notices.specs.declared.profiles.Named.{Named}
 use Rattle.notices.specs.declared.profiles.Profile.the-variants.{Credit}
 use Rattle.notices.specs.declared.profiles.Profile.{Profile}
-use Rattle.schedule.specs.ListCheck.{sofarAt, answerAt, fromNotice, badList, listAnswer, checkedIn, namedAnswer, checkAnswer}
+use Rattle.schedule.specs.ListCheck.{sofarAt, answerAt, badList, listAnswer, checkedIn, namedAnswer, checkAnswer}
 use Rattle.schedule.specs.declared.rules.Sofar.{Sofar}
 use Rattle.schedule.proofs.Lawful.{Sound, Alike, Follows, period-iff, open-iff, week-iff, order-iff, apart-iff, limit-iff}
 use Rattle.schedule.proofs.RuleLaws.{checked-right}
@@ -103,27 +105,16 @@ module _ (w : ℕ) (f : Figures) (l : List ℕ) where
 -- the walk accepts exactly when every notice passes
 
 module _ (w : ℕ) (f : Figures) (l : List ℕ) where
-  pub walk-passes : (left k : ℕ) → fromNotice (winterOf w) f l left k ≡ accepted → (j : ℕ) → k ≤ j → j < k + left → isRefusal (answerAt (winterOf w) f l j) ≡ false
-  unfolding fromNotice
-  walk-passes zero k e j a b = absurd (omega arith)
-  walk-passes (suc left) k e j a b =
-      let p = else-accepted (answerAt (winterOf w) f l k) (fromNotice (winterOf w) f l left (suc k)) e in
-      ⊎-elim (λ (q : k ≡ j). rw q at (p .0)) (λ (q : k < j). walk-passes left (suc k) (p .1) j q (omega arith)) (eq-or-lt-of-le a)
-
-  pub passes-walk : (left k : ℕ) → ((j : ℕ) → k ≤ j → j < k + left → answerAt (winterOf w) f l j ≡ accepted) → fromNotice (winterOf w) f l left k ≡ accepted
-  unfolding fromNotice
-  passes-walk zero k g = refl
-  passes-walk (suc left) k g =
-      sym (else-go (answerAt (winterOf w) f l k) (fromNotice (winterOf w) f l left (suc k)) (ap isRefusal (g k (omega arith) (omega arith)))
-      (sym (passes-walk left (suc k) (λ j a b. g j (omega arith) (omega arith)))))
-
-  all-passed : (n : ℕ) → fromNotice (winterOf w) f l n 0 ≡ accepted → AllPassed w f l n
+  all-passed : (n : ℕ) → walk (answerAt (winterOf w) f l) n 0 ≡ accepted → AllPassed w f l n
   unfolding answerAt
-  all-passed n e k h = passed (winterOf w) f (sofarAt l k) (noticeAt l k) k (walk-passes n 0 e k (omega arith) (omega arith))
+  all-passed n e k h =
+      passed (winterOf w) f (sofarAt l k) (noticeAt l k) k (accepted-iff-clear (answerAt (winterOf w) f l) n .0 e .at k h)
 
-  passed-all : (n : ℕ) → AllPassed w f l n → fromNotice (winterOf w) f l n 0 ≡ accepted
+  passed-all : (n : ℕ) → AllPassed w f l n → walk (answerAt (winterOf w) f l) n 0 ≡ accepted
   unfolding answerAt
-  passed-all n t = passes-walk n 0 (λ j a b. passed-accepted (winterOf w) f (sofarAt l j) (noticeAt l j) j (t j (omega arith)))
+  passed-all n t =
+      accepted-iff-clear (answerAt (winterOf w) f l) n .1
+      (record { at = λ j h. ap isRefusal (passed-accepted (winterOf w) f (sofarAt l j) (noticeAt l j) j (t j h)) })
 
 -- the whole call
 
@@ -135,7 +126,7 @@ module _ (w : ℕ) (f : Figures) (l : List ℕ) where
   pub list-lawful : noWinter w ≡ false → listAnswer (winterOf w) f l ≡ accepted → Lawful w f l
   unfolding listAnswer
   list-lawful v e =
-      let p = refuse-accepted (badList (length l)) 4 0 (fromNotice (winterOf w) f l (countOf l) 0) (omega arith) e in
+      let p = refuse-accepted (badList (length l)) 4 0 (walk (answerAt (winterOf w) f l) (countOf l) 0) (omega arith) e in
       let fits = list-fits (length l) (p .0) in
       let t = all-passed w f l (countOf l) (p .1) in
       record {
@@ -163,18 +154,11 @@ accepted-iff-lawful w p l =
 
 -- a list that is not refused is accepted
 
-from-accepted : (w : ℕ) (f : Figures) (l : List ℕ) (left k : ℕ) → isRefusal (fromNotice (winterOf w) f l left k) ≡ false → fromNotice (winterOf w) f l left k ≡ accepted
-unfolding fromNotice
-from-accepted w f l zero k e = refl
-from-accepted w f l (suc left) k e =
-    let p = else-none (answerAt (winterOf w) f l k) (fromNotice (winterOf w) f l left (suc k)) e in
-    sym (else-go (answerAt (winterOf w) f l k) (fromNotice (winterOf w) f l left (suc k)) (p .0) (sym (from-accepted w f l left (suc k) (p .1))))
-
 list-accepted : (w : ℕ) (f : Figures) (l : List ℕ) → isRefusal (listAnswer (winterOf w) f l) ≡ false → listAnswer (winterOf w) f l ≡ accepted
 unfolding listAnswer
 list-accepted w f l e =
-    let p = refuse-none (badList (length l)) 4 0 (fromNotice (winterOf w) f l (countOf l) 0) (omega arith) e in
-    sym (kept (refusalAt 4 0) (p .0) (sym (from-accepted w f l (countOf l) 0 (p .1))))
+    let p = refuse-none (badList (length l)) 4 0 (walk (answerAt (winterOf w) f l) (countOf l) 0) (omega arith) e in
+    sym (kept (refusalAt 4 0) (p .0) (sym (walk-accepted (answerAt (winterOf w) f l) (countOf l) (p .1))))
 
 pub check-accepted : (w q : ℕ) (l : List ℕ) → isRefusal (checkAnswer w q l) ≡ false → checkAnswer w q l ≡ accepted
 unfolding checkAnswer

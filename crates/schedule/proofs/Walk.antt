@@ -1,5 +1,5 @@
 -- Laws of the walk over the notices: what a notice that is not refused has passed, and one law for each way out of the loop and for a turn.
--- The invariant: what stands before notice k is what the list has before it, and the notices from k on give what the whole list gives.
+-- The invariant: what stands before notice k is what the list has before it, and no notice before it is refused.
 -- Assumes nothing.
 use Prim.Native.Nat.{ℕ, zero, suc, _+_, _-_, _/_, _%_, _≤_, _<_}
 use mathlib.Core.Bool.{true, false, not}
@@ -12,8 +12,10 @@ use borrow.Author.Tests.{ltb-false, eqb-true, not-false}
 use Rattle.calendar.specs.declared.answers.Winter.{Winter}
 use Rattle.laws.proofs.Guards.{neither}
 use Rattle.laws.proofs.Tables.{Numbered, NoneBroken, accepted-none, none-accepted, not-refused, else-stop, else-go, in-parts}
+use Rattle.laws.proofs.Walks.{Walked, walked-none, walked-next, walked-stop, walked-all}
 use Rattle.laws.specs.Answer.{Answer}
 use Rattle.laws.specs.Table.{accepted, firstOf, isRefusal, orElse}
+use Rattle.laws.specs.Walk.{walk}
 use Rattle.notices.proofs.HourLaws.{hours-fit}
 use Rattle.notices.proofs.NoticeLaws.{hours-none, hours-next}
 use Rattle.notices.specs.Hours.{badHours, badLength}
@@ -21,20 +23,19 @@ use Rattle.notices.specs.Notices.{noticeAt, hoursOf, hoursTo}
 use Rattle.notices.specs.Sane.{Sane}
 use Rattle.notices.specs.declared.notices.Notice.{Notice}
 use Rattle.notices.specs.declared.profiles.Figures.{Figures}
-use Rattle.schedule.specs.ListCheck.{ownRows, listRows, noticeRows, noticeAnswer, nothingBefore, afterNotice, sofarAt, answerAt, fromNotice, badList}
+use Rattle.schedule.specs.ListCheck.{ownRows, listRows, noticeRows, noticeAnswer, nothingBefore, afterNotice, sofarAt, answerAt, badList}
 use Rattle.schedule.specs.Rules.{outsidePeriod, onExcludedDay, barredWeekend, startsBefore, sameBand, overLimit}
 use Rattle.schedule.specs.declared.rules.Sofar.{Sofar}
 
 -- a notice is accepted exactly when none of its rows is broken
 
-pub own-numbered : (w : Winter) (f : Figures) (n : Notice) → Numbered (ownRows w f n)
+own-numbered : (w : Winter) (f : Figures) (n : Notice) (k : ℕ) → Numbered (ownRows w f n k)
 unfolding ownRows
-own-numbered w f n = (omega arith, (omega arith, (omega arith, (omega arith, (omega arith, tt)))))
+own-numbered w f n k = omega arith
 
-notice-numbered : (w : Winter) (f : Figures) (so : Sofar) (n : Notice) → Numbered (noticeRows w f so n)
+notice-numbered : (w : Winter) (f : Figures) (so : Sofar) (n : Notice) (k : ℕ) → Numbered (noticeRows w f so n k)
 unfolding noticeRows ownRows listRows
-notice-numbered w f so n =
-    (omega arith, (omega arith, (omega arith, (omega arith, (omega arith, (omega arith, (omega arith, (omega arith, tt))))))))
+notice-numbered w f so n k = omega arith
 
 -- the rules that a notice has passed, by name
 pub record Passed (w : Winter) (f : Figures) (so : Sofar) (n : Notice) : Type 0 where
@@ -48,9 +49,9 @@ pub record Passed (w : Winter) (f : Figures) (so : Sofar) (n : Notice) : Type 0 
   pub limit : overLimit f so n ≡ false
 
 module _ (w : Winter) (f : Figures) (so : Sofar) (n : Notice) where
-  pub none-passed : NoneBroken (noticeRows w f so n) → Passed w f so n
+  none-passed : (k : ℕ) → NoneBroken (noticeRows w f so n k) → Passed w f so n
   unfolding noticeRows ownRows listRows
-  none-passed t =
+  none-passed k t =
       record {
         period = t .0;
         open-day = t .1 .0;
@@ -62,20 +63,20 @@ module _ (w : Winter) (f : Figures) (so : Sofar) (n : Notice) where
         limit = t .1 .1 .1 .1 .1 .1 .1 .0;
       }
 
-  passed-none : Passed w f so n → NoneBroken (noticeRows w f so n)
+  passed-none : (k : ℕ) → Passed w f so n → NoneBroken (noticeRows w f so n k)
   unfolding noticeRows ownRows listRows
-  passed-none t =
+  passed-none k t =
       (t .period, (t .open-day, (t .week, (t .hours, (t .long, (t .order, (t .apart, (t .limit, tt))))))))
 
   pub passed : (k : ℕ) → isRefusal (noticeAnswer w f so n k) ≡ false → Passed w f so n
   unfolding noticeAnswer
   passed k e =
-      let numbered = notice-numbered w f so n in
-      none-passed (accepted-none k (noticeRows w f so n) numbered (not-refused k (noticeRows w f so n) numbered e))
+      let numbered = notice-numbered w f so n k in
+      none-passed k (accepted-none (noticeRows w f so n k) numbered (not-refused (noticeRows w f so n k) numbered e))
 
   pub passed-accepted : (k : ℕ) → Passed w f so n → noticeAnswer w f so n k ≡ accepted
   unfolding noticeAnswer
-  passed-accepted k t = none-accepted k (noticeRows w f so n) (passed-none t)
+  passed-accepted k t = none-accepted (noticeRows w f so n k) (passed-none k t)
 
 -- the sum of a notice that is not refused fits
 
@@ -86,33 +87,16 @@ module _ (w : Winter) (f : Figures) (so : Sofar) (n : Notice) (ok : Sane f) (t :
 
 -- the two parts of a notice's rules: its own first, and then those of the list
 
-module _ (w : Winter) (f : Figures) (so : Sofar) (n : Notice) (k : ℕ) {a : Answer} (own : a ≡ firstOf k (ownRows w f n)) where
-  parts : noticeAnswer w f so n k ≡ orElse a (firstOf k (listRows f so n))
+module _ (w : Winter) (f : Figures) (so : Sofar) (n : Notice) (k : ℕ) {a : Answer} (own : a ≡ firstOf (ownRows w f n k)) where
+  parts : noticeAnswer w f so n k ≡ orElse a (firstOf (listRows f so n k))
   unfolding noticeAnswer noticeRows
-  parts = rw own (in-parts k (ownRows w f n) (listRows f so n) (own-numbered w f n))
+  parts = rw own (in-parts (ownRows w f n k) (listRows f so n k) (own-numbered w f n k))
 
   pub notice-stop : isRefusal a ≡ true → a ≡ noticeAnswer w f so n k
-  notice-stop e = else-stop a (firstOf k (listRows f so n)) e ∙ sym parts
+  notice-stop e = else-stop a (firstOf (listRows f so n k)) e ∙ sym parts
 
-  pub notice-go : {b : Answer} → isRefusal a ≡ false → b ≡ firstOf k (listRows f so n) → b ≡ noticeAnswer w f so n k
-  notice-go e q = else-go a (firstOf k (listRows f so n)) e q ∙ sym parts
-
--- the walk by index
-
-module _ (w : Winter) (f : Figures) (l : List ℕ) (n k : ℕ) where
-  from-step : k < n → fromNotice w f l (n - k) k ≡ orElse (answerAt w f l k) (fromNotice w f l (n - (k + 1)) (k + 1))
-  unfolding fromNotice
-  from-step h = let e : n - k ≡ suc (n - (k + 1)) = omega arith in rw (e, add-one k)
-
-  pub from-go : k < n → isRefusal (answerAt w f l k) ≡ false → fromNotice w f l (n - (k + 1)) (k + 1) ≡ fromNotice w f l (n - k) k
-  from-go h z = else-go (answerAt w f l k) (fromNotice w f l (n - (k + 1)) (k + 1)) z refl ∙ sym (from-step h)
-
-  pub from-stop : k < n → isRefusal (answerAt w f l k) ≡ true → answerAt w f l k ≡ fromNotice w f l (n - k) k
-  from-stop h z = else-stop (answerAt w f l k) (fromNotice w f l (n - (k + 1)) (k + 1)) z ∙ sym (from-step h)
-
-  pub from-done : n ≤ k → accepted ≡ fromNotice w f l (n - k) k
-  unfolding fromNotice
-  from-done h = let e : n - k ≡ 0 = omega arith in rw e
+  pub notice-go : {b : Answer} → isRefusal a ≡ false → b ≡ firstOf (listRows f so n k) → b ≡ noticeAnswer w f so n k
+  notice-go e q = else-go a (firstOf (listRows f so n k)) e q ∙ sym parts
 
 pub sofar-hours : (l : List ℕ) (k : ℕ) → sofarAt l k .hours ≡ hoursTo l k
 unfolding sofarAt
@@ -126,28 +110,25 @@ sofar-next l k = rw (add-one k, sofar-hours l k, hours-next l k)
 -- the loop, over plain variables
 
 pub record Held (w : Winter) (f : Figures) (l : List ℕ) (n : ℕ) (so : Sofar) (k : ℕ) : Type 0 where
-  pub within : k ≤ n
   pub small : so .hours ≤ 100
   pub same : so ≡ sofarAt l k
-  pub rest : fromNotice w f l (n - k) k ≡ fromNotice w f l n 0
+  pub walked : Walked (answerAt w f l) n k
 
 pub held-start : (w : Winter) (f : Figures) (l : List ℕ) (n : ℕ) (so : Sofar) → so ≡ nothingBefore → Held w f l n so 0
 unfolding sofarAt
-held-start w f l n so e =
-    let z : n - 0 ≡ n = omega arith in
-    record { within = omega arith; small = rw e (omega arith); same = e; rest = rw z }
+held-start w f l n so e = record { small = rw e (omega arith); same = e; walked = walked-none }
 
 module _ {w : Winter} {f : Figures} {l : List ℕ} {n : ℕ} {so : Sofar} {k : ℕ} (h : Held w f l n so k) where
-  pub held-done : n ≤ k → accepted ≡ fromNotice w f l n 0
-  held-done e = from-done w f l n k e ∙ h .rest
+  pub held-done : n ≤ k → accepted ≡ walk (answerAt w f l) n 0
+  held-done = walked-all (h .walked)
 
   module _ {m : Notice} {a : Answer} (at : m ≡ noticeAt l k) (said : a ≡ noticeAnswer w f so m k) where
     answer-is : a ≡ answerAt w f l k
     unfolding answerAt
     answer-is = said ∙ rw (h .same, at)
 
-    pub held-stop : k < n → isRefusal a ≡ true → a ≡ fromNotice w f l n 0
-    held-stop e t = answer-is ∙ from-stop w f l n k e (ap isRefusal (sym answer-is) ∙ t) ∙ h .rest
+    pub held-stop : k < n → isRefusal a ≡ true → a ≡ walk (answerAt w f l) n 0
+    held-stop = walked-stop (h .walked) answer-is
 
     passed-here : isRefusal a ≡ false → Passed w f so m
     passed-here t = passed w f so m k (ap isRefusal (sym said) ∙ t)
@@ -159,10 +140,9 @@ module _ {w : Winter} {f : Figures} {l : List ℕ} {n : ℕ} {so : Sofar} {k : �
     unfolding afterNotice
     held-next {next} ok e t q =
         record {
-          within = omega arith;
           small = rw q (sum-fits w f so m ok (passed-here t));
           same = q ∙ rw (h .same, at) (sofar-next l k);
-          rest = from-go w f l n k e (ap isRefusal (sym answer-is) ∙ t) ∙ h .rest;
+          walked = walked-next (h .walked) answer-is e t;
         }
 
 -- a list of whole triples, not more than 100, holds at most 100 notices

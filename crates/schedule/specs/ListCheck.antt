@@ -12,7 +12,8 @@ use Rattle.calendar.specs.WinterOf.{winterOf}
 use Rattle.calendar.specs.declared.answers.Winter.{Winter}
 use Rattle.dates.specs.Winters.{noWinter}
 use Rattle.laws.specs.Answer.{Answer, refuse}
-use Rattle.laws.specs.Table.{accepted, refusalAt, Row, row, firstOf, orElse}
+use Rattle.laws.specs.Table.{refusalAt, Row, row, firstOf}
+use Rattle.laws.specs.Walk.{walk}
 use Rattle.notices.specs.Hours.{badHours, badLength}
 use Rattle.notices.specs.Notices.{countOf, noNotice, noticeAt, hoursOf, hoursTo}
 use Rattle.notices.specs.Profiles.{figuresOf, named}
@@ -24,30 +25,30 @@ use Rattle.notices.specs.declared.profiles.Profile.{Profile}
 use Rattle.schedule.specs.Rules.{outsidePeriod, onExcludedDay, barredWeekend, startsBefore, sameBand, overLimit}
 use Rattle.schedule.specs.declared.rules.Sofar.{Sofar}
 
--- the rules of a notice by itself
-unfoldable pub ownRows : Winter → Figures → Notice → List Row
-ownRows w f n =
-    row 10 (outsidePeriod w n)
-    ∷ row 11 (onExcludedDay w n)
-    ∷ row 12 (barredWeekend f w n)
-    ∷ row 13 (badHours f n)
-    ∷ row 14 (badLength f n)
+-- the rules of the notice at index k by itself
+unfoldable pub ownRows : Winter → Figures → Notice → ℕ → List Row
+ownRows w f n k =
+    row 10 k (outsidePeriod w n)
+    ∷ row 11 k (onExcludedDay w n)
+    ∷ row 12 k (barredWeekend f w n)
+    ∷ row 13 k (badHours f n)
+    ∷ row 14 k (badLength f n)
     ∷ []
 
--- the rules of a notice among the others
-unfoldable pub listRows : Figures → Sofar → Notice → List Row
-listRows f so n =
-    row 15 (startsBefore (so .last) n)
-    ∷ row 16 (sameBand (so .last) n)
-    ∷ row 18 (overLimit f so n)
+-- its rules among the others
+unfoldable pub listRows : Figures → Sofar → Notice → ℕ → List Row
+listRows f so n k =
+    row 15 k (startsBefore (so .last) n)
+    ∷ row 16 k (sameBand (so .last) n)
+    ∷ row 18 k (overLimit f so n)
     ∷ []
 
--- all rules of a notice, in their order
-unfoldable pub noticeRows : Winter → Figures → Sofar → Notice → List Row
-noticeRows w f so n = ownRows w f n ++ listRows f so n
+-- all its rules, in their order
+unfoldable pub noticeRows : Winter → Figures → Sofar → Notice → ℕ → List Row
+noticeRows w f so n k = ownRows w f n k ++ listRows f so n k
 
 unfoldable pub noticeAnswer : Winter → Figures → Sofar → Notice → ℕ → Answer
-noticeAnswer w f so n k = firstOf k (noticeRows w f so n)
+noticeAnswer w f so n k = firstOf (noticeRows w f so n k)
 
 -- what stands before a notice: before the first, none; before the next, this notice and the hours with it
 abbrev pub nothingBefore : Sofar
@@ -63,18 +64,13 @@ sofarAt l (suc k) = record { last = noticeAt l k; hours = hoursTo l (suc k) }
 unfoldable pub answerAt : Winter → Figures → List ℕ → ℕ → Answer
 answerAt w f l k = noticeAnswer w f (sofarAt l k) (noticeAt l k) k
 
--- the notices from index k on, of which there are `left`
-unfoldable pub fromNotice : Winter → Figures → List ℕ → ℕ → ℕ → Answer
-fromNotice w f l zero k = accepted
-fromNotice w f l (suc left) k = orElse (answerAt w f l k) (fromNotice w f l left (suc k))
-
 -- "4: list not whole triples, or more than 100"
 unfoldable pub badList : ℕ → Bool
 badList length = not (eqb (length % 3) 0) || ltb 300 length
 
 -- the list by a profile's figures
 unfoldable pub listAnswer : Winter → Figures → List ℕ → Answer
-listAnswer w f l = refuse (badList (length l)) (refusalAt 4 0) (fromNotice w f l (countOf l) 0)
+listAnswer w f l = refuse (badList (length l)) (refusalAt 4 0) (walk (answerAt w f l) (countOf l) 0)
 
 -- the list in a winter under a profile; anything may be handed over as a winter's facts
 unfoldable pub checkedIn : Winter → Profile → List ℕ → Answer

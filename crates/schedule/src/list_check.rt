@@ -5,10 +5,11 @@ ghost use Rattle.calendar.specs.Days.{wrongWinter};
 ghost use Prim.Native.Nat.{_≤_, _<_};
 ghost use lib.ListN.{length};
 ghost use Rattle.laws.specs.Table.{firstOf};
+ghost use Rattle.laws.specs.Walk.{walk};
 ghost use Rattle.notices.specs.Notices.{countOf, noticeAt, hoursOf};
 ghost use Rattle.notices.specs.Sane.{Sane};
 ghost use Rattle.schedule.specs.Verdicts.{verdictPaper};
-ghost use Rattle.schedule.specs.ListCheck.{ownRows, listRows, noticeAnswer, nothingBefore, afterNotice, fromNotice, badList, checkedIn, checkAnswer};
+ghost use Rattle.schedule.specs.ListCheck.{ownRows, listRows, noticeAnswer, nothingBefore, afterNotice, answerAt, badList, checkedIn, checkAnswer};
 use crate::rules::Sofar;
 use crate::rules::barred_weekend;
 use crate::rules::kind_on;
@@ -28,7 +29,7 @@ use notices::Profile;
 // Rules 10 to 14: the notice at place k by itself.
 fn own_verdict(w: Winter, f: Figures, n: Notice, k: u32) -> Verdict
     requires { ⌜ wrongWinter w ≡ false ⌝ }
-    ensures { λ r. ⌜ verdictPaper r ≡ firstOf k (ownRows w f n) ⌝ }
+    ensures { λ r. ⌜ verdictPaper r ≡ firstOf (ownRows w f n k) ⌝ }
 {
     let day = kind_on(w, n);
     if !day.period {
@@ -51,7 +52,7 @@ fn own_verdict(w: Winter, f: Figures, n: Notice, k: u32) -> Verdict
 
 // Rules 15, 16 and 18: the notice at place k among the others.
 fn list_verdict(f: Figures, so: Sofar, n: Notice, k: u32) -> Verdict
-    ensures { λ r. ⌜ verdictPaper r ≡ firstOf k (listRows f so n) ⌝ }
+    ensures { λ r. ⌜ verdictPaper r ≡ firstOf (listRows f so n k) ⌝ }
 {
     let last = so.last;
     if starts_before(last, n) {
@@ -117,7 +118,7 @@ fn notice_in(list: &[u32], k: usize) -> Notice
 // The first refusal among the notices of a list.
 fn check_notices(w: Winter, f: Figures, list: &[u32], count: usize) -> Verdict
     requires { ⌜ (wrongWinter w ≡ false) × Sane f × (count ≤ 100) × (count ≤ countOf (now list)) ⌝ }
-    ensures { λ r. ⌜ verdictPaper r ≡ fromNotice w f (now (list .entry)) count 0 ⌝ }
+    ensures { λ r. ⌜ verdictPaper r ≡ walk (answerAt w f (now (list .entry))) count 0 ⌝ }
 {
     let mut so = nothing_before();
     let mut k: usize = 0;

@@ -79,11 +79,11 @@ module _ (w p : ℕ) (book l lines : List ℕ) (j : length lines ≡ roomFor l) 
 
 -- more than 100 notices are refused by the call's own rows, whatever they are
 pub many-refused : (w p number : ℕ) (book l : List ℕ) (n : ℕ) → length l ≡ 3 * n → 100 < n
-    → refusalAt number 0 ≡ firstOf 0 (callRows w (length book) p (3 * n) (4 * n)) → refusedBytes number 0 ≡ settledBytes w book p l
+    → refusalAt number 0 ≡ firstOf (callRows w (length book) p (3 * n) (4 * n)) → refusedBytes number 0 ≡ settledBytes w book p l
 many-refused w p number book l n h m e =
     let third : 3 * n / 3 ≡ n = omega arith in
-    let row : refusalAt number 0 ≡ firstOf 0 (callRows w (length book) p (length l) (roomFor l)) = rw (h, third) e in
-    let none : number ≡ 0 → isRefusal (firstOf 0 (callRows w (length book) p (3 * n) (4 * n))) ≡ false
+    let row : refusalAt number 0 ≡ firstOf (callRows w (length book) p (length l) (roomFor l)) = rw (h, third) e in
+    let none : number ≡ 0 → isRefusal (firstOf (callRows w (length book) p (3 * n) (4 * n))) ≡ false
     = λ (z : number ≡ 0). ap isRefusal (sym e) ∙ rw z in
     let some : number ≡ 0 → ⊥ = λ (z : number ≡ 0). omega (arith, call-right w (length book) p (3 * n) (4 * n) (none z) .few) in
     let just : length {A = ℕ} (replicate (roomFor l) 0) ≡ roomFor l = length-replicate (roomFor l) 0 in

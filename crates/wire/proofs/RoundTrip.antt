@@ -9,6 +9,7 @@ use native.Mathlib.Nat.{add-assoc, add-zero, eq-or-lt-of-le, le-of-suc-le-suc}
 use native.Mathlib.Omega.{arith}
 use lib.ListN.{length, getD, drop, List·getD-append}
 use lib.Seq.{getD-append-add}
+use Rattle.laws.proofs.RowLaws.{rows-more}
 use Rattle.wire.specs.Bytes.{fourBytesAt, eightBytes, bytesTo, writtenCount, bytesWritten}
 use Rattle.wire.proofs.WriteLaws.{bytes-long}
 
@@ -78,13 +79,13 @@ module _ (xs ys : List ℕ) where
 
 module _ (numbers : List ℕ) (k : ℕ) (fits : getD numbers k 0 < 2 ^ 64) where
   bytes-back : (n : ℕ) → k < n → halvesAt (bytesTo numbers n) (8 * k) ≡ getD numbers k 0
-  unfolding bytesTo
   bytes-back zero h = absurd (omega arith)
   bytes-back (suc n) h =
-      ⊎-elim
+      rw (rows-more (λ (i : ℕ). eightBytes (getD numbers i 0)) n)
+      (⊎-elim
       (λ (e : k ≡ n). rw (← e) (halves-behind (bytesTo numbers k) (eightBytes (getD numbers k 0)) (8 * k) (bytes-long numbers k) ∙ eight-back (getD numbers k 0) fits))
       (λ (l : k < n). halves-front (bytesTo numbers n) (eightBytes (getD numbers n 0)) (8 * k) (rw (bytes-long numbers n) (omega arith)) ∙ bytes-back n l)
-      (eq-or-lt-of-le (le-of-suc-le-suc h))
+      (eq-or-lt-of-le (le-of-suc-le-suc h)))
 
   -- each number that is written
   pub written-back : (bytes : List ℕ) → k < writtenCount numbers bytes → halvesAt (bytesWritten numbers bytes) (8 * k) ≡ getD numbers k 0

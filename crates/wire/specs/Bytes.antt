@@ -2,18 +2,18 @@
 -- "At that boundary the slices are bytes, numbers little-endian; bytes over from whole numbers are a wrong length (2, 4), and in the output
 -- stay untouched." A number that comes in has four bytes, one that goes out has eight.
 -- Assumes nothing.
-use Prim.Native.Nat.{ℕ, zero, suc, _+_, _*_, _/_, _%_, _^_, min}
-use mathlib.Core.List.{List, [], _∷_, _++_}
-use lib.ListN.{length, getD, drop}
+use Prim.Native.Nat.{ℕ, _+_, _*_, _/_, _%_, _^_, min}
+use mathlib.Core.List.{List, [], _∷_}
+use lib.ListN.{length, getD}
+use Rattle.laws.specs.Rows.{rowsTo, rowsOver, numbersOver}
 
 -- the 32-bit number in the four bytes from index i on, the lowest byte first
 unfoldable pub fourBytesAt : List ℕ → ℕ → ℕ
 fourBytesAt bytes i = getD bytes i 0 + 2 ^ 8 * getD bytes (i + 1) 0 + 2 ^ 16 * getD bytes (i + 2) 0 + 2 ^ 24 * getD bytes (i + 3) 0
 
 -- the first k numbers of some bytes
-unfoldable pub numbersTo : List ℕ → ℕ → List ℕ
-numbersTo bytes zero = []
-numbersTo bytes (suc k) = numbersTo bytes k ++ (fourBytesAt bytes (4 * k) ∷ [])
+abbrev pub numbersTo : List ℕ → ℕ → List ℕ
+numbersTo bytes = rowsTo (λ (k : ℕ). fourBytesAt bytes (4 * k) ∷ [])
 
 -- how many numbers are read: as many as the bytes hold whole and there is room for
 abbrev pub readCount : List ℕ → List ℕ → ℕ
@@ -21,7 +21,7 @@ readCount bytes numbers = min (length bytes / 4) (length numbers)
 
 -- the numbers once the bytes are read into them; what there are no bytes for stays
 unfoldable pub numbersRead : List ℕ → List ℕ → List ℕ
-numbersRead bytes numbers = numbersTo bytes (readCount bytes numbers) ++ drop (readCount bytes numbers) numbers
+numbersRead bytes numbers = numbersOver (λ (k : ℕ). fourBytesAt bytes (4 * k)) (readCount bytes numbers) numbers
 
 -- the eight bytes of a 64-bit number, the lowest first
 unfoldable pub eightBytes : ℕ → List ℕ
@@ -37,9 +37,8 @@ eightBytes v =
     ∷ []
 
 -- the bytes of the first k numbers
-unfoldable pub bytesTo : List ℕ → ℕ → List ℕ
-bytesTo numbers zero = []
-bytesTo numbers (suc k) = bytesTo numbers k ++ eightBytes (getD numbers k 0)
+abbrev pub bytesTo : List ℕ → ℕ → List ℕ
+bytesTo numbers = rowsTo (λ (k : ℕ). eightBytes (getD numbers k 0))
 
 -- how many numbers are written: as many as there are and have room for all their eight bytes
 abbrev pub writtenCount : List ℕ → List ℕ → ℕ
@@ -47,4 +46,4 @@ writtenCount numbers bytes = min (length numbers) (length bytes / 8)
 
 -- the bytes once the numbers are written to them; those over "stay untouched"
 unfoldable pub bytesWritten : List ℕ → List ℕ → List ℕ
-bytesWritten numbers bytes = bytesTo numbers (writtenCount numbers bytes) ++ drop (8 * writtenCount numbers bytes) bytes
+bytesWritten numbers bytes = rowsOver 8 (λ (k : ℕ). eightBytes (getD numbers k 0)) (writtenCount numbers bytes) bytes

@@ -1,12 +1,10 @@
 -- `put_line` is four stores in a row.
 -- Assumes nothing.
-use Prim.Native.Nat.{ℕ, suc, _+_}
-use mathlib.Core.List.{List, [], _∷_}
-use mathlib.Core.Path.{_≡_, refl}
+use mathlib.Core.List.{[], _∷_}
 use native.Mathlib.Omega.{arith}
-use lib.ListN.{set, length-set}
-use lib.Seq.{sets}
+use lib.ListN.{length-set}
 use borrow.Author.Needs.{needs}
+use Rattle.laws.proofs.Stores.{stores-in-a-row}
 use Rattle.money.proofs.lines.put_line.Statement.{statement}
 use Rattle.money.proofs.lines.put_line.Tie as tie
 
@@ -46,17 +44,10 @@ slice-write-out-4 c = simp length-set (omega arith)
 same-length : tie.Need-same-length
 same-length c = search needs
 
-four : (l : List ℕ) (i a b c d : ℕ) → set (set (set (set l i a) (i + 1) b) (i + 2) c) (i + 3) d ≡ sets l i (a ∷ b ∷ c ∷ d ∷ [])
-four l i a b c d =
-    let e1 : i + 1 ≡ suc i = omega arith in
-    let e2 : i + 2 ≡ suc (suc i) = omega arith in
-    let e3 : i + 3 ≡ suc (suc (suc i)) = omega arith in
-    rw (e1, e2, e3) refl
-
 returns : tie.Need-returns
 returns c =
     let event = c .args .event in
-    four (c .args .out .now) (c .args .at) (event .code) (event .place) (event .energy) (c .args .cents)
+    stores-in-a-row (c .args .out .now) (c .args .at) (event .code ∷ event .place ∷ event .energy ∷ c .args .cents ∷ [])
 
 pub put-line-spec : {M : Type 1} → statement M
 put-line-spec =

@@ -9,21 +9,19 @@ use native.Mathlib.Omega.{arith}
 use lib.ListN.{length}
 use lib.Seq.{sets}
 use borrow.Author.Needs.{needs}
-use Rattle.money.specs.Lines.{eventIn, energyTo, centsAt, lineAt, linesTo}
-use Rattle.money.specs.Settlement.{linesIn}
+use Rattle.laws.proofs.RowLaws.{Filled, filled-none, filled-next, filled-all}
+use Rattle.money.specs.Lines.{eventIn, energyTo, centsAt, lineAt}
 use Rattle.money.specs.Worth.{roundedWorth}
 use Rattle.money.specs.declared.lines.Event.{Event}
-use Rattle.money.proofs.LineLaws.{Small, events-small, energy-next, energy-small, lines-next}
+use Rattle.money.proofs.LineLaws.{Small, events-small, energy-next, energy-small, line-wide}
 use Rattle.money.proofs.WorthLaws.{worth-zero, worth-grows}
 use Rattle.money.proofs.lines.put_lines.Statement.{statement}
 use Rattle.money.proofs.lines.put_lines.Tie as tie
 
 record Held (p : ℕ) (events : ℕ → Event) (out₀ : List ℕ) (n : ℕ) (out : List ℕ) (energy worth k : ℕ) : Type 0 where
-  within : k ≤ n
   energy-is : energy ≡ energyTo events k
   worth-is : worth ≡ roundedWorth p (energyTo events k)
-  lines-are : out ≡ linesIn p events k out₀
-  size : length out ≡ length out₀
+  filled : Filled 4 (lineAt p events) out₀ n out k
 
 module _ {p : ℕ} {events : ℕ → Event} {out₀ : List ℕ} {n : ℕ} {out : List ℕ} {energy worth k : ℕ} (h : Held p events out₀ n out energy worth k) where
   -- the energy with the event e of this turn
@@ -47,20 +45,14 @@ module _ {p : ℕ} {events : ℕ → Event} {out₀ : List ℕ} {n : ℕ} {out :
 
   -- a turn: the four stores are line k
   held-next : (e : Event) → e ≡ events k → (w : ℕ) → w ≡ roundedWorth p (energy + e .energy) → k < n → 4 * n ≤ length out₀ → (out′ : List ℕ)
-      → length out′ ≡ length out → out′ ≡ sets out (4 * k) (e .code ∷ e .place ∷ e .energy ∷ (w - worth) ∷ [])
+      → out′ ≡ sets out (4 * k) (e .code ∷ e .place ∷ e .energy ∷ (w - worth) ∷ [])
       → Held p events out₀ n out′ (energy + e .energy) w (k + 1)
-  held-next e q w v lt room out′ long stored =
-      rw add-one (record {
-        within = lt;
-        energy-is = more-is e q;
-        worth-is = w-is e q w v;
-        lines-are =
-            stored
-            ∙ ap (λ (vs : List ℕ). sets out (4 * k) vs) (line-is e q w v)
-            ∙ ap (λ (o : List ℕ). sets o (4 * k) (lineAt p events k)) (h .lines-are)
-            ∙ lines-next p events out₀ k (omega arith);
-        size = long ∙ h .size;
-      })
+  held-next e q w v lt room out′ stored =
+      record {
+        energy-is = rw add-one (more-is e q);
+        worth-is = rw add-one (w-is e q w v);
+        filled = filled-next (h .filled) (line-wide p events) room lt stored (line-is e q w v);
+      }
 
 abbrev Inv-loop : tie.InvT-loop
 Inv-loop w book masks price list out₀ n energy₀ worth₀ k₀ out energy worth k = Held price (eventIn w book masks list) out₀ n out energy worth k
@@ -69,8 +61,8 @@ abbrev μ-loop : tie.MeasureT-loop
 μ-loop w book masks price list out₀ n energy₀ worth₀ k₀ out energy worth k = n - k
 
 loop-holds : tie.Need-loop-holds Inv-loop μ-loop
-unfolding energyTo linesTo
-loop-holds c = record { within = omega arith; energy-is = refl; worth-is = sym (worth-zero _); lines-are = refl; size = refl }
+unfolding energyTo
+loop-holds c = record { energy-is = refl; worth-is = sym (worth-zero _); filled = filled-none }
 
 event-by-requires : tie.Need-event-by-requires Inv-loop μ-loop
 event-by-requires c κs = search needs
@@ -110,17 +102,17 @@ loop-again c =
     let e = t .before .before .before .before in
     let l = e .before .before in
     let s = l .before .before .before .before in
-    held-next (l .loop .inv) _ (e .event-by .ensures .0) _ (t .before .before .rounded-worth .ensures) (e .before .loop-test .taken) (s .pre .0) _ (t .put-line .kept .0) (t .put-line .ensures)
+    held-next (l .loop .inv) _ (e .event-by .ensures .0) _ (t .before .before .rounded-worth .ensures) (e .before .loop-test .taken) (s .pre .0) _ (t .put-line .ensures)
 
 same-length : tie.Need-same-length Inv-loop μ-loop
-same-length c = c .before .loop .inv .size
+same-length c = c .before .loop .inv .filled .size
 
 returns : tie.Need-returns Inv-loop μ-loop
 returns c =
     let l = c .before in
     let h = l .loop .inv in
     let e : l .loop .k ≡ l .before .before .before .before .args .n = omega arith in
-    (rw (← e) (h .energy-is), rw (← e) (h .lines-are))
+    (rw (← e) (h .energy-is), filled-all (h .filled) (c .loop-test .left))
 
 pub put-lines-spec : {M : Type 1} → statement M
 put-lines-spec =

@@ -7,6 +7,7 @@ use native.Mathlib.Numerals.{add-one}
 use native.Mathlib.Omega.{arith}
 use lib.ListN.{length}
 use borrow.Author.Needs.{needs}
+use Rattle.laws.proofs.RowLaws.{rows-none, rows-more}
 use Rattle.notices.specs.Notices.{noticeAt}
 use Rattle.notices.specs.declared.notices.Notice.{Notice}
 use Rattle.numerals.specs.Lines.{lineBytes, bytesOfLines}
@@ -22,9 +23,14 @@ use Rattle.printing.proofs.lines.put_lines.Tie as tie
 lines-next : (l out : List ℕ) (k : ℕ) {before now after : List ℕ} {i p q : ℕ} {n : Notice} {s : Settled} → n ≡ noticeAt l k → s ≡ settledIn out k
     → Put before i (bytesOfLines (noticeLines l out k)) p now → Put now p (lineBytes (lineFor n s)) q after
     → Put before i (bytesOfLines (noticeLines l out (k + 1))) q after
-unfolding noticeLines noticeLine
+unfolding noticeLine
 lines-next l out k e f a b =
-    rw (add-one k) (put-both (noticeLines l out k) (noticeLine l out k ∷ []) a (put-last _ (rw (e, f) at b)))
+    rw (add-one k, rows-more (λ (i : ℕ). noticeLine l out i ∷ []) k)
+    (put-both (noticeLines l out k) (noticeLine l out k ∷ []) a (put-last _ (rw (e, f) at b)))
+
+-- before the first turn
+lines-none : (l out before : List ℕ) (i : ℕ) → Put before i (bytesOfLines (noticeLines l out 0)) i before
+lines-none l out before i = rw (rows-none (λ (k : ℕ). noticeLine l out k ∷ [])) (put-none before i)
 
 abbrev Inv-loop : tie.InvT-loop
 Inv-loop out₀ at list lines n next₀ k₀ out next k =
@@ -34,8 +40,7 @@ abbrev μ-loop : tie.MeasureT-loop
 μ-loop out₀ at list lines n next₀ k₀ out next k = n - k
 
 loop-holds : tie.Need-loop-holds Inv-loop μ-loop
-unfolding noticeLines
-loop-holds c = (omega arith, omega arith, refl, put-none _ _)
+loop-holds c = (omega arith, omega arith, refl, lines-none _ _ _ _)
 
 notice-at-requires : tie.Need-notice-at-requires Inv-loop μ-loop
 notice-at-requires c κs = search needs

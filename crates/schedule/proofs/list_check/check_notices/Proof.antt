@@ -1,5 +1,5 @@
 -- `check_notices` walks the notices.
--- The invariant, `Held`: what stands before notice k is what the list has before it, and the notices from k on give what all give.
+-- The invariant, `Held`: what stands before notice k is what the list has before it, and no notice before it is refused.
 -- Assumes nothing.
 use Prim.Native.Nat.{_-_}
 use borrow.Author.Needs.{needs}

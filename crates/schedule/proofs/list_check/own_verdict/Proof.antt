@@ -13,15 +13,15 @@ kind-on-requires c κs = search needs
 
 returns : tie.Need-returns
 unfolding ownRows
-returns c = row-stops _ _ _ (outside-on _ _ _ (c .before .before .kind-on .ensures) (c .if1 .taken))
+returns c = row-stops _ _ (outside-on _ _ _ (c .before .before .kind-on .ensures) (c .if1 .taken))
 
 returns-2 : tie.Need-returns-2
 unfolding ownRows
 returns-2 c =
     let period = c .before in
     let on = period .before .before .kind-on .ensures in
-    row-goes _ _ _ (outside-on _ _ _ on (period .if1 .left))
-    (row-stops _ _ _ (excluded-on _ _ _ on (period .if1 .left) (c .if2 .taken)))
+    row-goes _ _ (outside-on _ _ _ on (period .if1 .left))
+    (row-stops _ _ (excluded-on _ _ _ on (period .if1 .left) (c .if2 .taken)))
 
 returns-3 : tie.Need-returns-3
 unfolding ownRows
@@ -30,9 +30,9 @@ returns-3 c =
     let period = open-day .before in
     let on = period .before .before .kind-on .ensures in
     let n = period .before .before .before .args .n in
-    row-goes _ _ _ (outside-on _ _ _ on (period .if1 .left))
-    (row-goes _ _ _ (excluded-on _ _ _ on (period .if1 .left) (open-day .if2 .left))
-    (row-stops _ _ _ (found (c .before .barred-weekend .ensures (in-period _ n _ on (period .if1 .left))) (c .if3 .taken))))
+    row-goes _ _ (outside-on _ _ _ on (period .if1 .left))
+    (row-goes _ _ (excluded-on _ _ _ on (period .if1 .left) (open-day .if2 .left))
+    (row-stops _ _ (found (c .before .barred-weekend .ensures (in-period _ n _ on (period .if1 .left))) (c .if3 .taken))))
 
 barred-weekend-requires : tie.Need-barred-weekend-requires
 barred-weekend-requires c κs = search needs
@@ -48,10 +48,10 @@ returns-4 c =
     let period = open-day .before in
     let on = period .before .before .kind-on .ensures in
     let n = period .before .before .before .args .n in
-    row-goes _ _ _ (outside-on _ _ _ on (period .if1 .left))
-    (row-goes _ _ _ (excluded-on _ _ _ on (period .if1 .left) (open-day .if2 .left))
-    (row-goes _ _ _ (found (week .before .barred-weekend .ensures (in-period _ n _ on (period .if1 .left))) (week .if3 .left))
-    (row-stops _ _ _ (found (c .before .bad-hours .ensures) (c .if4 .taken)))))
+    row-goes _ _ (outside-on _ _ _ on (period .if1 .left))
+    (row-goes _ _ (excluded-on _ _ _ on (period .if1 .left) (open-day .if2 .left))
+    (row-goes _ _ (found (week .before .barred-weekend .ensures (in-period _ n _ on (period .if1 .left))) (week .if3 .left))
+    (row-stops _ _ (found (c .before .bad-hours .ensures) (c .if4 .taken)))))
 
 bad-length-requires : tie.Need-bad-length-requires
 bad-length-requires c κs = search needs
@@ -65,11 +65,11 @@ returns-5 c =
     let period = open-day .before in
     let on = period .before .before .kind-on .ensures in
     let n = period .before .before .before .args .n in
-    row-goes _ _ _ (outside-on _ _ _ on (period .if1 .left))
-    (row-goes _ _ _ (excluded-on _ _ _ on (period .if1 .left) (open-day .if2 .left))
-    (row-goes _ _ _ (found (week .before .barred-weekend .ensures (in-period _ n _ on (period .if1 .left))) (week .if3 .left))
-    (row-goes _ _ _ (found (hours .before .bad-hours .ensures) (hours .if4 .left))
-    (row-stops _ _ _ (found (c .before .bad-length .ensures) (c .if5 .taken))))))
+    row-goes _ _ (outside-on _ _ _ on (period .if1 .left))
+    (row-goes _ _ (excluded-on _ _ _ on (period .if1 .left) (open-day .if2 .left))
+    (row-goes _ _ (found (week .before .barred-weekend .ensures (in-period _ n _ on (period .if1 .left))) (week .if3 .left))
+    (row-goes _ _ (found (hours .before .bad-hours .ensures) (hours .if4 .left))
+    (row-stops _ _ (found (c .before .bad-length .ensures) (c .if5 .taken))))))
 
 returns-6 : tie.Need-returns-6
 unfolding ownRows
@@ -80,11 +80,11 @@ returns-6 c =
     let period = open-day .before in
     let on = period .before .before .kind-on .ensures in
     let n = period .before .before .before .args .n in
-    row-goes _ _ _ (outside-on _ _ _ on (period .if1 .left))
-    (row-goes _ _ _ (excluded-on _ _ _ on (period .if1 .left) (open-day .if2 .left))
-    (row-goes _ _ _ (found (week .before .barred-weekend .ensures (in-period _ n _ on (period .if1 .left))) (week .if3 .left))
-    (row-goes _ _ _ (found (hours .before .bad-hours .ensures) (hours .if4 .left))
-    (row-goes _ _ _ (found (c .before .bad-length .ensures) (c .if5 .left)) (rows-end _)))))
+    row-goes _ _ (outside-on _ _ _ on (period .if1 .left))
+    (row-goes _ _ (excluded-on _ _ _ on (period .if1 .left) (open-day .if2 .left))
+    (row-goes _ _ (found (week .before .barred-weekend .ensures (in-period _ n _ on (period .if1 .left))) (week .if3 .left))
+    (row-goes _ _ (found (hours .before .bad-hours .ensures) (hours .if4 .left))
+    (row-goes _ _ (found (c .before .bad-length .ensures) (c .if5 .left)) rows-end))))
 
 pub own-verdict-spec : {M : Type 1} → statement M
 own-verdict-spec =

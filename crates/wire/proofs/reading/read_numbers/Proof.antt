@@ -1,19 +1,18 @@
 -- `read_numbers` fills the numbers from the front.
 -- The invariant: the first i are those of the bytes, the others as they were, and there are as many as there were.
 -- Assumes nothing.
-use Prim.Native.Nat.{_≤_, _-_}
-use mathlib.Core.List.{_++_}
-use mathlib.Core.Path.{_≡_, refl}
+use Prim.Native.Nat.{ℕ, _-_, _*_}
+use mathlib.Core.List.{[], _∷_}
+use mathlib.Core.Path.{_∙_}
 use native.Mathlib.Omega.{arith}
-use lib.ListN.{length, drop, length-set}
 use borrow.Author.Needs.{needs}
-use Rattle.wire.specs.Bytes.{numbersTo}
-use Rattle.wire.proofs.ReadLaws.{numbers-none, numbers-next, numbers-all}
+use Rattle.laws.proofs.RowLaws.{Filled, filled-none, filled-set, filled-ones}
+use Rattle.wire.specs.Bytes.{fourBytesAt, numbersRead}
 use Rattle.wire.proofs.reading.read_numbers.Statement.{statement}
 use Rattle.wire.proofs.reading.read_numbers.Tie as tie
 
 abbrev Inv-loop : tie.InvT-loop
-Inv-loop bytes numbers₀ count i₀ numbers i = (i ≤ count) × (numbers ≡ numbersTo bytes i ++ drop i numbers₀) × (length numbers ≡ length numbers₀)
+Inv-loop bytes numbers₀ count i₀ numbers i = Filled 1 (λ (k : ℕ). fourBytesAt bytes (4 * k) ∷ []) numbers₀ count numbers i
 
 abbrev μ-loop : tie.MeasureT-loop
 μ-loop bytes numbers₀ count i₀ numbers i = count - i
@@ -22,7 +21,7 @@ smaller-requires : tie.Need-smaller-requires Inv-loop μ-loop
 smaller-requires c κs = search needs
 
 loop-holds : tie.Need-loop-holds Inv-loop μ-loop
-loop-holds c = (omega arith, numbers-none (c .before .before .before .args .bytes .now) _, refl)
+loop-holds c = filled-none
 
 mul-number-at : tie.Need-mul-number-at Inv-loop μ-loop
 mul-number-at c = omega arith
@@ -44,18 +43,14 @@ loop-less c = omega arith
 
 loop-again : tie.Need-loop-again Inv-loop μ-loop
 loop-again c =
-    let l = c .before .before .loop in
-    let a = c .before .before .before .before .before .before .args in (
-      omega arith,
-      numbers-next (a .bytes .now) (a .numbers .now) (l .i) (omega arith) (l .inv .1) (c .number-at .ensures),
-      simp length-set (l .inv .2),
-    )
+    filled-set (c .before .before .loop .inv) (omega arith) (c .before .loop-test .taken) (c .number-at .ensures)
 
 same-length : tie.Need-same-length Inv-loop μ-loop
-same-length c = c .before .loop .inv .2
+same-length c = c .before .loop .inv .size
 
 returns : tie.Need-returns Inv-loop μ-loop
-returns c = numbers-all _ _ (c .before .loop .i) (c .before .loop .inv .1) (omega arith)
+unfolding numbersRead
+returns c = filled-ones (c .before .loop .inv) (c .loop-test .left) ∙ rw (c .before .before .smaller .ensures)
 
 pub read-numbers-spec : {M : Type 1} → statement M
 read-numbers-spec =

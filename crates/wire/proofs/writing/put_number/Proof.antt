@@ -1,10 +1,9 @@
 -- `put_number` makes eight stores: those of the number's bytes, at i, i + 1 and so on.
 -- Assumes nothing.
-use Prim.Native.Nat.{suc, _+_}
-use mathlib.Core.Path.{_≡_}
 use native.Mathlib.Omega.{arith}
 use lib.ListN.{length-set}
 use borrow.Author.Needs.{needs}
+use Rattle.laws.proofs.Stores.{stores-in-a-row}
 use Rattle.wire.specs.Bytes.{eightBytes}
 use Rattle.wire.proofs.writing.put_number.Statement.{statement}
 use Rattle.wire.proofs.writing.put_number.Tie as tie
@@ -83,16 +82,7 @@ same-length c = simp length-set
 
 returns : tie.Need-returns
 unfolding eightBytes
-returns c =
-    let i = c .args .i in
-    let e1 : i + 1 ≡ suc i = omega arith in
-    let e2 : i + 2 ≡ suc (suc i) = omega arith in
-    let e3 : i + 3 ≡ suc (suc (suc i)) = omega arith in
-    let e4 : i + 4 ≡ suc (suc (suc (suc i))) = omega arith in
-    let e5 : i + 5 ≡ suc (suc (suc (suc (suc i)))) = omega arith in
-    let e6 : i + 6 ≡ suc (suc (suc (suc (suc (suc i))))) = omega arith in
-    let e7 : i + 7 ≡ suc (suc (suc (suc (suc (suc (suc i)))))) = omega arith in
-    rw (e1, e2, e3, e4, e5, e6, e7)
+returns c = stores-in-a-row (c .args .bytes .now) (c .args .i) (eightBytes (c .args .v))
 
 pub put-number-spec : {M : Type 1} → statement M
 put-number-spec =

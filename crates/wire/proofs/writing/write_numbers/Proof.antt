@@ -1,19 +1,19 @@
 -- `write_numbers` fills the bytes from the front, eight at a time.
 -- The invariant: the first 8 * i are those of the first i numbers, the others as they were, and there are as many as there were.
 -- Assumes nothing.
-use Prim.Native.Nat.{_≤_, _-_, _*_}
-use mathlib.Core.List.{_++_}
-use mathlib.Core.Path.{_≡_, refl, _∙_}
+use Prim.Native.Nat.{ℕ, _-_}
+use mathlib.Core.Path.{refl, _∙_}
 use native.Mathlib.Omega.{arith}
-use lib.ListN.{length, drop}
+use lib.ListN.{getD}
 use borrow.Author.Needs.{needs}
-use Rattle.wire.specs.Bytes.{bytesTo}
-use Rattle.wire.proofs.WriteLaws.{bytes-none, bytes-next, bytes-all}
+use Rattle.laws.proofs.RowLaws.{Filled, filled-none, filled-next, filled-all}
+use Rattle.wire.specs.Bytes.{eightBytes, bytesWritten}
+use Rattle.wire.proofs.WriteLaws.{eight-wide}
 use Rattle.wire.proofs.writing.write_numbers.Statement.{statement}
 use Rattle.wire.proofs.writing.write_numbers.Tie as tie
 
 abbrev Inv-loop : tie.InvT-loop
-Inv-loop numbers bytes₀ count i₀ bytes i = (i ≤ count) × (bytes ≡ bytesTo numbers i ++ drop (8 * i) bytes₀) × (length bytes ≡ length bytes₀)
+Inv-loop numbers bytes₀ count i₀ bytes i = Filled 8 (λ (k : ℕ). eightBytes (getD numbers k 0)) bytes₀ count bytes i
 
 abbrev μ-loop : tie.MeasureT-loop
 μ-loop numbers bytes₀ count i₀ bytes i = count - i
@@ -22,7 +22,7 @@ smaller-requires : tie.Need-smaller-requires Inv-loop μ-loop
 smaller-requires c κs = search needs
 
 loop-holds : tie.Need-loop-holds Inv-loop μ-loop
-loop-holds c = (omega arith, bytes-none (c .before .before .before .args .numbers .now) _, refl)
+loop-holds c = filled-none
 
 mul-put-number : tie.Need-mul-put-number Inv-loop μ-loop
 mul-put-number c = omega arith
@@ -44,20 +44,16 @@ loop-less c = omega arith
 
 loop-again : tie.Need-loop-again Inv-loop μ-loop
 loop-again c =
-    let s = c .before .before .before .before .before .before in
-    let l = s .loop in
-    let a = s .before .before .before .before .args in
-    let p = c .before .before .put-number in (
-      omega arith,
-      bytes-next (a .numbers .now) (a .bytes .now) (l .i) (omega arith) (l .inv .1) (p .ensures),
-      p .kept .0 ∙ l .inv .2,
-    )
+    let turn = c .before .before .before .before .before in
+    let start = turn .before .before .before .before .before in
+    filled-next (turn .before .loop .inv) (eight-wide (start .args .numbers .now)) (omega arith) (turn .loop-test .taken) (c .before .before .put-number .ensures) refl
 
 same-length : tie.Need-same-length Inv-loop μ-loop
-same-length c = c .before .loop .inv .2
+same-length c = c .before .loop .inv .size
 
 returns : tie.Need-returns Inv-loop μ-loop
-returns c = bytes-all _ _ (c .before .loop .i) (c .before .loop .inv .1) (omega arith)
+unfolding bytesWritten
+returns c = filled-all (c .before .loop .inv) (c .loop-test .left) ∙ rw (c .before .before .smaller .ensures)
 
 pub write-numbers-spec : {M : Type 1} → statement M
 write-numbers-spec =
