@@ -26,10 +26,9 @@ use Rattle.form.specs.Places.{bookDays, misplaced, misplacedRead}
 use Rattle.form.specs.Said.{eventsOf, valuesOf, bookOf}
 use Rattle.laws.specs.Answer.{refuse}
 use Rattle.laws.specs.Rows.{rowsTo}
-use Rattle.laws.specs.Table.{firstOf, orElse}
-use Rattle.laws.specs.Walk.{walk}
+use Rattle.laws.specs.Table.{firstOf}
 use Rattle.money.specs.Lines.{eventAt, energyTo, centsAt, lineAt}
-use Rattle.money.specs.Refusals.{badBook, badPrice, shortOutput, callRows, refusalOf}
+use Rattle.money.specs.Refusals.{badBook, badPrice, shortOutput, callRows, settlementTable, refusalOf}
 use Rattle.money.specs.Settlement.{settledBy, writtenBy, settlement, written}
 use Rattle.money.specs.Worth.{roundedWorth}
 use Rattle.notices.specs.Hours.{outsideBands, badHours, badLength}
@@ -38,7 +37,7 @@ use Rattle.notices.specs.Profiles.{figuresOf, named}
 use Rattle.numerals.specs.Decimal.{digitsIn, decimal, field}
 use Rattle.numerals.specs.Lines.{fields, lineBytes, bytesOfLines}
 use Rattle.printing.specs.Sheet.{refusedLines, noticeLine, statementLines}
-use Rattle.schedule.specs.ListCheck.{ownRows, listRows, noticeRows, noticeAnswer, sofarAt, answerAt, badList, listAnswer, checkAnswer}
+use Rattle.schedule.specs.ListCheck.{ownRows, listRows, noticeRows, sofarAt, rowsAt, badList, checkTable, checkAnswer}
 use Rattle.schedule.specs.Rules.{outsidePeriod, onExcludedDay, barredWeekend, startsBefore, sameBand, overLimit}
 use Rattle.text.specs.Statement.{settlementBytes, settledBytes, valuesBytes, formBytes, statementOf}
 use Rattle.figures.specs.CalendarFigures.{alsoFrom, alsoExcluded, calendarFigures}
@@ -50,5 +49,5 @@ use Rattle.figures.specs.ScheduleFigures.{mornings, hundredHours, schedu
 use Rattle.figures.specs.TextFigures.{bytesIn, sampleInput, sampleOutput, twice, textFigures}
 
 pub figures-hold : map (λ (f : Figure). f .paper) figures ≡ map (λ (f : Figure). f .computed) figures
-unfolding calendarFigures alsoExcluded alsoFrom easterSunday refuse noEasterYear easterT easterInBook among goodFriday easterMonday excluded leap days winterOf wrongWinter noDay scheduleFigures mornings hundredHours checkAnswer listAnswer badList walk answerAt noticeAnswer noticeRows ownRows listRows firstOf orElse sofarAt noticeAt hoursOf hoursTo named figuresOf outsidePeriod onExcludedDay barredWeekend outsideBands badHours badLength startsBefore sameBand overLimit noWinter inPeriod firstWeekday weekday weekend energyFigures sampleDay sampleBook sampleList eventAnswer lineOf askedBy warmUp hoursFrom needed placesOn firstFault faultOf energyOf sumOver trimmedAt trimmedOf sumOf smallestOf largestOf sparedOf aboveLimit trialOf referenceDays before serves masksOf masksTo withHours marksNone hoursMask moneyFigures settlement settledBy written writtenBy refusalOf callRows badBook badPrice shortOutput rowsTo lineAt centsAt energyTo eventAt roundedWorth textFigures bytesIn sampleInput sampleOutput twice statementOf formBytes valuesBytes settledBytes settlementBytes formOf bodyOf keyedAt fieldAt markAt wordAt wordFrom numberAt numberFrom digitsFrom digitOf eventLines readLines eventLineAt readLineAt headAt valuesAt misplacedRead misplaced bookDays eventsOf bookOf valuesOf statementLines refusedLines noticeLine bytesOfLines lineBytes fields field decimal digitsIn
+unfolding calendarFigures alsoExcluded alsoFrom easterSunday refuse noEasterYear easterT easterInBook among goodFriday easterMonday excluded leap days winterOf wrongWinter noDay scheduleFigures mornings hundredHours checkAnswer checkTable badList rowsAt noticeRows ownRows listRows firstOf sofarAt noticeAt hoursOf hoursTo named figuresOf outsidePeriod onExcludedDay barredWeekend outsideBands badHours badLength startsBefore sameBand overLimit noWinter inPeriod firstWeekday weekday weekend energyFigures sampleDay sampleBook sampleList eventAnswer lineOf askedBy warmUp hoursFrom needed placesOn firstFault faultOf energyOf sumOver trimmedAt trimmedOf sumOf smallestOf largestOf sparedOf aboveLimit trialOf referenceDays before serves masksOf masksTo withHours marksNone hoursMask moneyFigures settlement settledBy written writtenBy refusalOf settlementTable callRows badBook badPrice shortOutput rowsTo lineAt centsAt energyTo eventAt roundedWorth textFigures bytesIn sampleInput sampleOutput twice statementOf formBytes valuesBytes settledBytes settlementBytes formOf bodyOf keyedAt fieldAt markAt wordAt wordFrom numberAt numberFrom digitsFrom digitOf eventLines readLines eventLineAt readLineAt headAt valuesAt misplacedRead misplaced bookDays eventsOf bookOf valuesOf statementLines refusedLines noticeLine bytesOfLines lineBytes fields field decimal digitsIn
 figures-hold = refl

@@ -11,6 +11,7 @@ use native.Mathlib.Omega.{arith}
 use lib.ListN.{length, getD, take, drop, set, length-append, List·getD-append}
 use lib.Seq.{sets, length-sets, getD-append-add, take-at, drop-at}
 use Rattle.laws.specs.Rows.{rowsTo, rowsOver, numbersOver}
+use Rattle.laws.proofs.Every.{Every, left, right, joined}
 use Rattle.laws.proofs.Stores.{sets-front}
 
 -- no rows, one row more, and rows that are alike
@@ -113,3 +114,19 @@ module _ {numberAt : ℕ → ℕ} where
 
 pub ones-long : (numberAt : ℕ → ℕ) (k : ℕ) → length (rowsTo (λ (i : ℕ). numberAt i ∷ []) k) ≡ k
 ones-long numberAt k = rows-long one-wide k ∙ one-mul k
+
+-- what holds of every element of the rows holds in each row, and the other way round
+module _ {A : Type 0} (P : A → Type 0) (rowAt : ℕ → List A) where
+  pub each-row : (n : ℕ) → Every P (rowsTo rowAt n) → (k : ℕ) → k < n → Every P (rowAt k)
+  unfolding rowsTo
+  each-row zero e k h = absurd (omega arith)
+  each-row (suc n) e k h =
+      ⊎-elim
+      (λ (q : k ≡ n). rw q (right P (rowsTo rowAt n) (rowAt n) e))
+      (λ (q : k < n). each-row n (left P (rowsTo rowAt n) (rowAt n) e) k q)
+      (eq-or-lt-of-le (le-of-suc-le-suc h))
+
+  pub all-rows : (n : ℕ) → ((k : ℕ) → k < n → Every P (rowAt k)) → Every P (rowsTo rowAt n)
+  unfolding rowsTo
+  all-rows zero f = tt
+  all-rows (suc n) f = joined P (rowsTo rowAt n) (rowAt n) (all-rows n (λ k h. f k (omega arith))) (f n (omega arith))

@@ -1,4 +1,3 @@
 pub mod Answer
 pub mod Rows
 pub mod Table
-pub mod Walk

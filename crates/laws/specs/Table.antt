@@ -1,5 +1,6 @@
 -- A table of refusals: rows that are tried in their order, each a number, the place that is told with it and whether its fault is there.
--- The place is 0 for a refusal of the call, an index for one of a list's parts, a line for one of a text.
+-- The place is 0 for a refusal of the call, an index for one of a list's parts, a line for one of a text. A table that has some rows for each
+-- index, one index after another, is `rowsTo` of those.
 -- Assumes nothing.
 use Prim.Native.Nat.{ℕ}
 use mathlib.Core.Bool.{Bool, not}
@@ -35,7 +36,3 @@ firstOf (r ∷ rows) = refuse (r .broken) (toldBy r) (firstOf rows)
 -- whether an answer is a refusal
 abbrev pub isRefusal : Answer → Bool
 isRefusal a = not (eqb (a .number) 0)
-
--- the first answer where it is a refusal, else the second
-unfoldable pub orElse : Answer → Answer → Answer
-orElse a b = refuse (isRefusal a) a b

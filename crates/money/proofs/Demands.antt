@@ -15,8 +15,6 @@ use Rattle.event_hours.specs.Days.{masksOf}
 use Rattle.laws.specs.Answer.{given}
 use Rattle.laws.specs.Table.{isRefusal}
 use Rattle.notices.specs.Notices.{countOf, noticeAt}
-use Rattle.notices.specs.declared.profiles.Profile.the-variants.{Credit}
-use Rattle.schedule.proofs.Accepted.{accepted-iff-lawful}
 use Rattle.laws.proofs.RowLaws.{rows-long}
 use Rattle.money.specs.Lines.{eventAt, centsAt, linesTo}
 use Rattle.money.specs.Printed.{codeIn, placeIn, energyIn, centsIn, runOf}
@@ -25,7 +23,7 @@ use Rattle.money.specs.Settlement.{settlement, linesIn, written}
 use Rattle.money.specs.Worth.{centParts, exactWorth, roundedWorth}
 use Rattle.money.specs.declared.lines.Event.{Event}
 use Rattle.money.proofs.LineLaws.{cents-next, line-wide}
-use Rattle.money.proofs.RefusalLaws.{settlement-right, list-accepted}
+use Rattle.money.proofs.RefusalLaws.{settlement-right, list-lawful}
 use Rattle.money.proofs.Runs.{run-same, energy-first, cents-first, events-near, events-near-first, code-is, place-is, energy-is, cents-is}
 use Rattle.money.proofs.SettlementLaws.{number-is, settled-accepted, written-accepted}
 use Rattle.money.proofs.WorthLaws.{Near, NearHalf}
@@ -84,7 +82,7 @@ module _ (w p : ℕ) (book l out : List ℕ) (ok : settlement w book p l (length
   unfolding eventAt
   line-is-answer k h =
       let s = settlement-right w (length book) p l (length out) none in
-      let r = accepted-iff-lawful w Credit l .0 (list-accepted w (length book) p l (length out) none) in
+      let r = list-lawful w (length book) p l (length out) none in
       event-given w book (masksOf l) (noticeAt l k) (s .book) (r .each k h)
       ∙ rw (output-is, code-is p events (drop (4 * n) out) n k h, place-is p events (drop (4 * n) out) n k h, energy-is p events (drop (4 * n) out) n k h)
 

@@ -3,8 +3,8 @@
 -- Assumes nothing.
 use Prim.Native.Nat.{ℕ, _*_, _/_, _%_, _≤_}
 use mathlib.Core.Bool.{true, false, not, _||_}
-use mathlib.Core.List.{List}
-use mathlib.Core.Path.{_≡_, refl, sym, subst}
+use mathlib.Core.List.{List, _++_}
+use mathlib.Core.Path.{_≡_, refl, sym, ap, subst, _∙_}
 use native.Mathlib.Omega.{arith}
 use lib.Dec.{eqb, ltb}
 use lib.ListN.{length}
@@ -15,17 +15,19 @@ use Rattle.dates.specs.Winters.{noWinter, days}
 use Rattle.dates.specs.declared.answers.Days.the-variants.{Are}
 use Rattle.dates.specs.declared.answers.Days.{Days}
 use Rattle.calendar.specs.WinterOf.{winterOf}
+use Rattle.laws.proofs.Every.{left, right, joined}
 use Rattle.laws.proofs.Guards.{neither}
-use Rattle.laws.proofs.Tables.{Numbered, row-stops, row-goes, rows-end, accepted-none, none-accepted, not-refused, else-stop, else-go, else-none, Within, within-first, within-else}
-use Rattle.laws.specs.Answer.{Answer}
-use Rattle.laws.specs.Table.{accepted, refusalAt, firstOf, isRefusal}
+use Rattle.laws.proofs.Tables.{Numbered, NoneBroken, row-stops, row-goes, rows-end, unrefused-none, none-accepted, part-stops, part-goes, Within, Bounded, within-first, within-parts}
+use Rattle.laws.specs.Table.{refusalAt, Row, firstOf, isRefusal}
 use Rattle.notices.specs.Notices.{countOf}
+use Rattle.notices.specs.Profiles.{figuresOf}
 use Rattle.notices.specs.declared.profiles.Profile.the-variants.{Credit}
-use Rattle.schedule.proofs.Accepted.{whole-test, check-accepted, check-credit}
-use Rattle.schedule.proofs.Bounds.{check-within}
-use Rattle.schedule.proofs.Walk.{list-fits}
-use Rattle.schedule.specs.ListCheck.{badList, checkedIn, checkAnswer}
-use Rattle.money.specs.Refusals.{badBook, badPrice, shortOutput, callRows, refusalOf}
+use Rattle.schedule.proofs.Accepted.{Lawful, whole-test, notices-lawful, lawful-notices}
+use Rattle.schedule.proofs.Bounds.{notices-within}
+use Rattle.schedule.proofs.RuleLaws.{checked-notices}
+use Rattle.schedule.proofs.Walk.{list-fits, notices-numbered}
+use Rattle.schedule.specs.ListCheck.{noticesTable, badList, checkedIn}
+use Rattle.money.specs.Refusals.{badBook, badPrice, shortOutput, callRows, settlementTable, refusalOf}
 
 module _ (w readings p numbers room : ℕ) where
   pub winter-refused : noWinter w ≡ true → refusalAt 1 0 ≡ firstOf (callRows w readings p numbers room)
@@ -71,78 +73,99 @@ pub record RightCall (w readings p numbers room : ℕ) : Type 0 where
   pub few : numbers / 3 ≤ 100
   pub room-for : 4 * (numbers / 3) ≤ room
 
-rows-numbered : (w readings p numbers room : ℕ) → Numbered (callRows w readings p numbers room)
+call-numbered : (w readings p numbers room : ℕ) → Numbered (callRows w readings p numbers room)
 unfolding callRows
-rows-numbered w readings p numbers room = omega arith
+call-numbered w readings p numbers room = omega arith
 
-pub call-right : (w readings p numbers room : ℕ) → isRefusal (firstOf (callRows w readings p numbers room)) ≡ false → RightCall w readings p numbers room
+none-right : (w readings p numbers room : ℕ) → NoneBroken (callRows w readings p numbers room) → RightCall w readings p numbers room
 unfolding callRows badBook badPrice shortOutput
-call-right w readings p numbers room e =
-    let rows = callRows w readings p numbers room in
-    let n = accepted-none rows (rows-numbered w readings p numbers room) (not-refused rows (rows-numbered w readings p numbers room) e) in
-    let prices = neither (ltb p 1) (ltb 1000000 p) (n .1 .1 .0) in
+none-right w readings p numbers room none =
+    let prices = neither (ltb p 1) (ltb 1000000 p) (none .1 .1 .0) in
     record {
-      winter = winter-range w .0 (n .0);
-      book = eqb-true readings (24 * days w) (not-false _ (n .1 .0));
+      winter = winter-range w .0 (none .0);
+      book = eqb-true readings (24 * days w) (not-false _ (none .1 .0));
       price = (ltb-false p 1 (prices .0), ltb-false 1000000 p (prices .1));
-      whole = list-fits numbers (n .1 .1 .1 .0) .0;
-      few = list-fits numbers (n .1 .1 .1 .0) .1;
-      room-for = ltb-false room (4 * (numbers / 3)) (n .1 .1 .1 .1 .0);
+      whole = list-fits numbers (none .1 .1 .1 .0) .0;
+      few = list-fits numbers (none .1 .1 .1 .0) .1;
+      room-for = ltb-false room (4 * (numbers / 3)) (none .1 .1 .1 .1 .0);
     }
 
--- a call's refusal decides, else that of the notices
-module _ (w readings p : ℕ) (l : List ℕ) (room number : ℕ) (e : refusalAt number 0 ≡ firstOf (callRows w readings p (length l) room)) where
-  pub refusal-call : (number ≡ 0 → ⊥) → refusalAt number 0 ≡ refusalOf w readings p l room
-  unfolding refusalOf
-  refusal-call f = rw (← e) (else-stop (refusalAt number 0) (checkAnswer w 1 l) (rw (ne-eqb number 0 f)))
-
-  -- in a winter, by its facts
-  pub refusal-notices : number ≡ 0 → noWinter w ≡ false → checkedIn (winterOf w) Credit l ≡ refusalOf w readings p l room
-  unfolding refusalOf
-  refusal-notices z v = rw (← e) (else-go (refusalAt number 0) (checkAnswer w 1 l) (rw z) (sym (check-credit w l v)))
-
-  pub call-is-right : number ≡ 0 → RightCall w readings p (length l) room
-  call-is-right z = call-right w readings p (length l) room (rw (← e, z))
-
--- a settlement that is not refused: the call is right, and the list check accepts the list
-module _ (w readings p : ℕ) (l : List ℕ) (room : ℕ) (e : isRefusal (refusalOf w readings p l room) ≡ false) where
-  parts : (isRefusal (firstOf (callRows w readings p (length l) room)) ≡ false) × (isRefusal (checkAnswer w 1 l) ≡ false)
-  unfolding refusalOf
-  parts = else-none (firstOf (callRows w readings p (length l) room)) (checkAnswer w 1 l) e
-
-  pub settlement-right : RightCall w readings p (length l) room
-  settlement-right = call-right w readings p (length l) room (parts .0)
-
-  pub list-accepted : checkAnswer w 1 l ≡ accepted
-  list-accepted = check-accepted w 1 l (parts .1)
-
--- and the other way: a right call with a list that the list check accepts
-pub right-accepted : (w readings p : ℕ) (l : List ℕ) (room : ℕ) → RightCall w readings p (length l) room → checkAnswer w 1 l ≡ accepted
-    → isRefusal (refusalOf w readings p l room) ≡ false
-unfolding refusalOf callRows badBook badPrice shortOutput
-right-accepted w readings p l room s e =
+right-none : (w readings p numbers room : ℕ) → RightCall w readings p numbers room → NoneBroken (callRows w readings p numbers room)
+unfolding callRows badBook badPrice shortOutput
+right-none w readings p numbers room s =
     let prices : (ltb p 1 || ltb 1000000 p) ≡ false = rw (le-ltb p 1 (s .price .0), le-ltb 1000000 p (s .price .1)) refl in
     let book : not (eqb readings (24 * days w)) ≡ false = rw (eq-eqb readings (24 * days w) (s .book)) refl in
-    let rows : firstOf (callRows w readings p (length l) room) ≡ accepted =
-    none-accepted (callRows w readings p (length l) room)
-    (winter-range w .1 (s .winter), (book, (prices, (whole-test (length l) (s .whole) (s .few), (le-ltb room (4 * (length l / 3)) (s .room-for), tt))))) in
-    rw (rows, ← else-go accepted (checkAnswer w 1 l) refl refl, e) refl
+    (winter-range w .1 (s .winter), (book, (prices, (whole-test numbers (s .whole) (s .few), (le-ltb room (4 * (numbers / 3)) (s .room-for), tt)))))
+
+pub call-right : (w readings p numbers room : ℕ) → isRefusal (firstOf (callRows w readings p numbers room)) ≡ false → RightCall w readings p numbers room
+call-right w readings p numbers room e =
+    none-right w readings p numbers room (unrefused-none (callRows w readings p numbers room) (call-numbered w readings p numbers room) e)
+
+module _ (w readings p : ℕ) (l : List ℕ) (room : ℕ) where
+  abbrev call : List Row
+  call = callRows w readings p (length l) room
+
+  abbrev notices : List Row
+  notices = noticesTable (winterOf w) (figuresOf Credit) l
+
+  -- a call's refusal decides, else that of the notices
+  module _ (number : ℕ) (e : refusalAt number 0 ≡ firstOf call) where
+    pub refusal-call : (number ≡ 0 → ⊥) → refusalAt number 0 ≡ refusalOf w readings p l room
+    unfolding refusalOf settlementTable
+    refusal-call f = e ∙ part-stops call notices (rw (← e, ne-eqb number 0 f))
+
+    pub call-is-right : number ≡ 0 → RightCall w readings p (length l) room
+    call-is-right z = call-right w readings p (length l) room (rw (← e, z))
+
+    -- in a winter, by its facts
+    pub refusal-notices : number ≡ 0 → checkedIn (winterOf w) Credit l ≡ refusalOf w readings p l room
+    unfolding refusalOf settlementTable
+    refusal-notices z =
+        let right = call-is-right z in
+        checked-notices w Credit l (whole-test (length l) (right .whole) (right .few)) ∙ part-goes call notices (right-none w readings p (length l) room right)
+
+  -- a settlement that is not refused: the call is right, and the list keeps every rule of the winter credit
+  module _ (e : isRefusal (refusalOf w readings p l room) ≡ false) where
+    none-broken : NoneBroken (call ++ notices)
+    unfolding refusalOf settlementTable
+    none-broken =
+        let numbered = joined (λ (r : Row). 1 ≤ r .number) call notices (call-numbered w readings p (length l) room) (notices-numbered (winterOf w) (figuresOf Credit) l) in
+        unrefused-none (call ++ notices) numbered e
+
+    pub settlement-right : RightCall w readings p (length l) room
+    settlement-right = none-right w readings p (length l) room (left (λ (r : Row). r .broken ≡ false) call notices none-broken)
+
+    pub list-lawful : Lawful w (figuresOf Credit) l
+    list-lawful =
+        let s = settlement-right in
+        notices-lawful w (figuresOf Credit) l (winter-range w .1 (s .winter)) (whole-test (length l) (s .whole) (s .few))
+        (right (λ (r : Row). r .broken ≡ false) call notices none-broken)
+
+  -- and the other way round
+  pub right-accepted : RightCall w readings p (length l) room → Lawful w (figuresOf Credit) l → isRefusal (refusalOf w readings p l room) ≡ false
+  unfolding refusalOf settlementTable
+  right-accepted s r =
+      ap isRefusal
+      (none-accepted (call ++ notices)
+      (joined (λ (r : Row). r .broken ≡ false) call notices (right-none w readings p (length l) room s) (lawful-notices w (figuresOf Credit) l r)))
 
 -- numbers are at most 18, places at most 100
-rows-within : (w readings p numbers room : ℕ) → Within 18 100 (firstOf (callRows w readings p numbers room))
+call-bounds : (w readings p numbers room : ℕ) → Bounded 18 100 (callRows w readings p numbers room)
 unfolding callRows
-rows-within w readings p numbers room =
-    within-first 18 100 (callRows w readings p numbers room) (omega arith)
+call-bounds w readings p numbers room = omega arith
 
 pub call-within : (w readings p numbers room number : ℕ) → refusalAt number 0 ≡ firstOf (callRows w readings p numbers room) → number ≤ 18
-call-within w readings p numbers room number e = subst (Within 18 100) (sym e) (rows-within w readings p numbers room) .0
+call-within w readings p numbers room number e =
+    subst (Within 18 100) (sym e) (within-first 18 100 (callRows w readings p numbers room) (call-bounds w readings p numbers room)) .0
 
 pub refusal-within : (w readings p : ℕ) (l : List ℕ) (room : ℕ) → Within 18 100 (refusalOf w readings p l room)
-unfolding refusalOf
+unfolding refusalOf settlementTable
 refusal-within w readings p l room =
-    within-else 18 100 (firstOf (callRows w readings p (length l) room)) (checkAnswer w 1 l) (rows-within w readings p (length l) room) (check-within w l 1)
+    within-parts 18 100 (call w readings p l room) (notices w readings p l room) (call-bounds w readings p (length l) room)
+    (λ none. let s = none-right w readings p (length l) room none in
+    notices-within w (figuresOf Credit) l (whole-test (length l) (s .whole) (s .few)))
 
 -- of the output's length only its room for the lines counts
 pub refusal-room : (w readings p : ℕ) (l : List ℕ) (a b : ℕ) → 4 * countOf l ≤ a → 4 * countOf l ≤ b → refusalOf w readings p l a ≡ refusalOf w readings p l b
-unfolding refusalOf callRows shortOutput
+unfolding refusalOf settlementTable callRows shortOutput
 refusal-room w readings p l a b ha hb = rw (le-ltb a (4 * countOf l) ha, le-ltb b (4 * countOf l) hb)

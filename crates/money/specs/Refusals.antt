@@ -3,13 +3,16 @@
 -- Assumes nothing.
 use Prim.Native.Nat.{ℕ, _*_, _/_}
 use mathlib.Core.Bool.{Bool, not, _||_}
-use mathlib.Core.List.{List, [], _∷_}
+use mathlib.Core.List.{List, [], _∷_, _++_}
 use lib.Dec.{ltb, eqb}
 use lib.ListN.{length}
+use Rattle.calendar.specs.WinterOf.{winterOf}
 use Rattle.dates.specs.Winters.{noWinter, days}
 use Rattle.laws.specs.Answer.{Answer}
-use Rattle.laws.specs.Table.{Row, row, firstOf, orElse}
-use Rattle.schedule.specs.ListCheck.{badList, checkAnswer}
+use Rattle.laws.specs.Table.{Row, row, firstOf}
+use Rattle.notices.specs.Profiles.{figuresOf}
+use Rattle.notices.specs.declared.profiles.Profile.the-variants.{Credit}
+use Rattle.schedule.specs.ListCheck.{noticesTable, badList}
 
 -- "2: book length is not 24N"
 unfoldable pub badBook : ℕ → ℕ → Bool
@@ -33,6 +36,9 @@ callRows w readings p numbers room =
     ∷ row 6 0 (shortOutput numbers room)
     ∷ []
 
--- past 1 and 4 the list check under profile 1 has only the notices left to refuse; no reading is looked at
+-- the whole table, and the first row of it that is broken; no reading is looked at
+unfoldable pub settlementTable : ℕ → ℕ → ℕ → List ℕ → ℕ → List Row
+settlementTable w readings p l room = callRows w readings p (length l) room ++ noticesTable (winterOf w) (figuresOf Credit) l
+
 unfoldable pub refusalOf : ℕ → ℕ → ℕ → List ℕ → ℕ → Answer
-refusalOf w readings p l room = orElse (firstOf (callRows w readings p (length l) room)) (checkAnswer w 1 l)
+refusalOf w readings p l room = firstOf (settlementTable w readings p l room)

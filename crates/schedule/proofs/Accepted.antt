@@ -1,23 +1,20 @@
 -- Demand 2, both directions: a list is accepted under a profile exactly when it is lawful by the profile's figures.
--- The walk accepts exactly when no notice is refused.
+-- Every row of the table is kept exactly when the list is lawful: rule by rule for a notice, and notice by notice for the list.
 -- Assumes nothing.
 use Prim.Native.Nat.{ℕ, zero, suc, _+_, _-_, _/_, _%_, _≤_, _<_}
-use mathlib.Core.Bool.{false, true≢false}
+use mathlib.Core.Bool.{false}
 use mathlib.Core.List.{List}
-use mathlib.Core.Logic.{⊎-elim, inl, _↔_}
-use mathlib.Core.Path.{_≡_, refl, sym, ap}
-use native.Mathlib.Nat.{eq-or-lt-of-le}
+use mathlib.Core.Logic.{inl, _↔_}
+use mathlib.Core.Path.{_≡_, refl, sym}
 use native.Mathlib.Omega.{arith}
 use lib.ListN.{length}
 use borrow.Author.Tests.{eq-eqb, le-ltb}
 use Rattle.calendar.specs.WinterOf.{winterOf}
 use Rattle.dates.proofs.Promise.{winter-range}
 use Rattle.dates.specs.Winters.{noWinter}
-use Rattle.laws.proofs.Refusals.{kept}
-use Rattle.laws.proofs.Tables.{refuse-accepted, refuse-none}
-use Rattle.laws.proofs.Walks.{accepted-iff-clear, walk-accepted}
-use Rattle.laws.specs.Table.{accepted, refusalAt, isRefusal}
-use Rattle.laws.specs.Walk.{walk}
+use Rattle.laws.proofs.Tables.{Numbered, NoneBroken, accepted-none, none-accepted, unrefused-accepted, row-goes}
+use Rattle.laws.proofs.Walks.{none-iff-each}
+use Rattle.laws.specs.Table.{accepted, isRefusal}
 use Rattle.notices.proofs.HourLaws.{hours-iff, long-iff}
 use Rattle.notices.proofs.NoticeLaws.{hours-none, hours-next, hours-grow}
 use Rattle.notices.proofs.ProfileLaws.{named-number}
@@ -25,15 +22,13 @@ use Rattle.notices.specs.Notices.{countOf, noNotice, noticeAt, hoursOf, hoursTo
 use Rattle.notices.specs.Profiles.{figuresOf, profileNumber, named}
 use Rattle.notices.specs.declared.notices.Notice.{Notice}
 use Rattle.notices.specs.declared.profiles.Figures.{Figures}
-use Rattle.notices.specs.declared.profiles.Named.the-variants.{Is, NoProfile}
-use Rattle.notices.specs.declared.profiles.Named.{Named}
 use Rattle.notices.specs.declared.profiles.Profile.the-variants.{Credit}
 use Rattle.notices.specs.declared.profiles.Profile.{Profile}
-use Rattle.schedule.specs.ListCheck.{sofarAt, answerAt, badList, listAnswer, checkedIn, namedAnswer, checkAnswer}
+use Rattle.schedule.specs.ListCheck.{sofarAt, rowsAt, noticesTable, badList, noProfile, namedFigures, checkTable, checkAnswer, checkedIn}
 use Rattle.schedule.specs.declared.rules.Sofar.{Sofar}
 use Rattle.schedule.proofs.Lawful.{Sound, Alike, Follows, period-iff, open-iff, week-iff, order-iff, apart-iff, limit-iff}
 use Rattle.schedule.proofs.RuleLaws.{checked-right}
-use Rattle.schedule.proofs.Walk.{Passed, passed, passed-accepted, sofar-hours, list-fits}
+use Rattle.schedule.proofs.Walk.{Passed, none-passed, passed-none, notices-numbered, sofar-hours, list-fits}
 
 -- a list that keeps every rule: every notice by itself, every notice against the one before it, and the hours together
 pub record Lawful (w : ℕ) (f : Figures) (l : List ℕ) : Type 0 where
@@ -102,33 +97,31 @@ module _ (w : ℕ) (f : Figures) (l : List ℕ) where
   passed-at n each follows hours (suc k) h =
       sound-passed w f (sofarAt l (suc k)) (noticeAt l (suc k)) (each (suc k) h) (follows k h) (omega (arith, hours-next l (suc k), hours-grow l n (suc (suc k)) (omega arith)))
 
--- the walk accepts exactly when every notice passes
+-- no row of the notices is broken exactly when every notice passes
 
 module _ (w : ℕ) (f : Figures) (l : List ℕ) where
-  all-passed : (n : ℕ) → walk (answerAt (winterOf w) f l) n 0 ≡ accepted → AllPassed w f l n
-  unfolding answerAt
-  all-passed n e k h =
-      passed (winterOf w) f (sofarAt l k) (noticeAt l k) k (accepted-iff-clear (answerAt (winterOf w) f l) n .0 e .at k h)
+  all-passed : NoneBroken (noticesTable (winterOf w) f l) → AllPassed w f l (countOf l)
+  unfolding rowsAt
+  all-passed t k h = none-passed (winterOf w) f (sofarAt l k) (noticeAt l k) k (none-iff-each (rowsAt (winterOf w) f l) (countOf l) .0 t k h)
 
-  passed-all : (n : ℕ) → AllPassed w f l n → walk (answerAt (winterOf w) f l) n 0 ≡ accepted
-  unfolding answerAt
-  passed-all n t =
-      accepted-iff-clear (answerAt (winterOf w) f l) n .1
-      (record { at = λ j h. ap isRefusal (passed-accepted (winterOf w) f (sofarAt l j) (noticeAt l j) j (t j h)) })
+  passed-all : AllPassed w f l (countOf l) → NoneBroken (noticesTable (winterOf w) f l)
+  unfolding rowsAt
+  passed-all t =
+      none-iff-each (rowsAt (winterOf w) f l) (countOf l) .1 (λ k h. passed-none (winterOf w) f (sofarAt l k) (noticeAt l k) k (t k h))
 
--- the whole call
+-- a list of whole triples, not more than 100, holds at most 100 notices, and the other way round
 
 pub whole-test : (n : ℕ) → n % 3 ≡ 0 → n / 3 ≤ 100 → badList n ≡ false
 unfolding badList
 whole-test n a b = rw (eq-eqb (n % 3) 0 a) (le-ltb 300 n (omega arith))
 
+-- no row of the table is broken exactly when the list is lawful
+
 module _ (w : ℕ) (f : Figures) (l : List ℕ) where
-  pub list-lawful : noWinter w ≡ false → listAnswer (winterOf w) f l ≡ accepted → Lawful w f l
-  unfolding listAnswer
-  list-lawful v e =
-      let p = refuse-accepted (badList (length l)) 4 0 (walk (answerAt (winterOf w) f l) (countOf l) 0) (omega arith) e in
-      let fits = list-fits (length l) (p .0) in
-      let t = all-passed w f l (countOf l) (p .1) in
+  pub notices-lawful : noWinter w ≡ false → badList (length l) ≡ false → NoneBroken (noticesTable (winterOf w) f l) → Lawful w f l
+  notices-lawful v b none =
+      let fits = list-fits (length l) b in
+      let t = all-passed w f l none in
       record {
         winter = winter-range w .0 v;
         whole = fits .0;
@@ -138,38 +131,49 @@ module _ (w : ℕ) (f : Figures) (l : List ℕ) where
         hours = all-hours w f l (countOf l) t;
       }
 
-  lawful-list : Lawful w f l → listAnswer (winterOf w) f l ≡ accepted
-  unfolding listAnswer
-  lawful-list r =
-      sym (kept (refusalAt 4 0) (whole-test (length l) (r .whole) (r .few)) (sym (passed-all w f l (countOf l) (passed-at w f l (countOf l) (r .each) (r .follows) (r .hours)))))
+  pub lawful-notices : Lawful w f l → NoneBroken (noticesTable (winterOf w) f l)
+  lawful-notices r = passed-all w f l (passed-at w f l (countOf l) (r .each) (r .follows) (r .hours))
+
+-- what is kept where no row of the table is broken
+pub record Clear (w q : ℕ) (l : List ℕ) : Type 0 where
+  pub winter : noWinter w ≡ false
+  pub profile : noProfile (named q) ≡ false
+  pub list : badList (length l) ≡ false
+  pub notices : NoneBroken (noticesTable (winterOf w) (namedFigures (named q)) l)
+
+module _ (w q : ℕ) (l : List ℕ) where
+  check-numbered : Numbered (checkTable w q l)
+  unfolding checkTable
+  check-numbered = (omega arith, (omega arith, (omega arith, notices-numbered (winterOf w) (namedFigures (named q)) l)))
+
+  pub check-clear : checkAnswer w q l ≡ accepted → Clear w q l
+  unfolding checkAnswer checkTable
+  check-clear e =
+      let none = accepted-none (checkTable w q l) check-numbered e in
+      record { winter = none .0; profile = none .1 .0; list = none .1 .1 .0; notices = none .1 .1 .1 }
+
+  clear-check : Clear w q l → checkAnswer w q l ≡ accepted
+  unfolding checkAnswer checkTable
+  clear-check c = none-accepted (checkTable w q l) (c .winter, (c .profile, (c .list, c .notices)))
+
+  -- a list that is not refused is accepted
+  pub check-accepted : isRefusal (checkAnswer w q l) ≡ false → checkAnswer w q l ≡ accepted
+  unfolding checkAnswer
+  check-accepted = unrefused-accepted (checkTable w q l) check-numbered
+
+-- in a winter the check under profile 1 is that by the winter's facts
+pub check-credit : (y : ℕ) (l : List ℕ) → noWinter y ≡ false → checkAnswer y 1 l ≡ checkedIn (winterOf y) Credit l
+unfolding checkAnswer checkTable
+check-credit y l v = sym (row-goes _ _ v (rw (named-number Credit) (row-goes _ _ refl (checked-right y Credit l))))
 
 -- DEMAND 2
 pub accepted-iff-lawful : (w : ℕ) (p : Profile) (l : List ℕ) → (checkAnswer w (profileNumber p) l ≡ accepted) ↔ Lawful w (figuresOf p) l
-unfolding checkAnswer
-accepted-iff-lawful w p l =
-    rw (named-number p) (
-      λ e. let q = refuse-accepted (noWinter w) 1 0 (listAnswer (winterOf w) (figuresOf p) l) (omega arith) e in list-lawful w (figuresOf p) l (q .0) (q .1),
-      λ r. sym (kept (refusalAt 1 0) (winter-range w .1 (r .winter)) (sym (lawful-list w (figuresOf p) l r))),
-    )
-
--- a list that is not refused is accepted
-
-list-accepted : (w : ℕ) (f : Figures) (l : List ℕ) → isRefusal (listAnswer (winterOf w) f l) ≡ false → listAnswer (winterOf w) f l ≡ accepted
-unfolding listAnswer
-list-accepted w f l e =
-    let p = refuse-none (badList (length l)) 4 0 (walk (answerAt (winterOf w) f l) (countOf l) 0) (omega arith) e in
-    sym (kept (refusalAt 4 0) (p .0) (sym (walk-accepted (answerAt (winterOf w) f l) (countOf l) (p .1))))
-
-pub check-accepted : (w q : ℕ) (l : List ℕ) → isRefusal (checkAnswer w q l) ≡ false → checkAnswer w q l ≡ accepted
-unfolding checkAnswer
-check-accepted w q l e =
-    let p = refuse-none (noWinter w) 1 0 (namedAnswer (winterOf w) (named q) l) (omega arith) e in sym (kept (refusalAt 1 0) (p .0) (sym (by (named q) (p .1))))
-  where
-    by : (x : Named) → isRefusal (namedAnswer (winterOf w) x l) ≡ false → namedAnswer (winterOf w) x l ≡ accepted
-    by (Is p) e = list-accepted w (figuresOf p) l e
-    by NoProfile e = absurd (true≢false e)
-
--- and in a winter the check under profile 1 is that by the winter's facts
-pub check-credit : (y : ℕ) (l : List ℕ) → noWinter y ≡ false → checkAnswer y 1 l ≡ checkedIn (winterOf y) Credit l
-unfolding checkAnswer
-check-credit y l v = sym (kept (refusalAt 1 0) v (rw (named-number Credit) (checked-right y Credit l)))
+accepted-iff-lawful w p l = (
+  λ e. let c = check-clear w (profileNumber p) l e in notices-lawful w (figuresOf p) l (c .winter) (c .list) (rw (named-number p) at (c .notices)),
+  λ r. clear-check w (profileNumber p) l (record {
+    winter = winter-range w .1 (r .winter);
+    profile = rw (named-number p);
+    list = whole-test (length l) (r .whole) (r .few);
+    notices = rw (named-number p) (lawful-notices w (figuresOf p) l r);
+  }),
+)

@@ -1,21 +1,22 @@
 -- Laws of the rules that work on a callee's result, and of the profile that a number names: one for each way out.
 -- Assumes nothing.
 use Prim.Native.Nat.{ℕ, _+_, _<_}
-use mathlib.Core.Bool.{Bool, true, false, not, _&&_, true≢false}
-use mathlib.Core.List.{List}
+use mathlib.Core.Bool.{Bool, true, false, not, true≢false}
+use mathlib.Core.List.{List, _∷_}
 use mathlib.Core.Path.{_≡_, refl, sym, ap, _∙_}
 use native.Mathlib.Omega.{arith}
 use lib.Dec.{ltb}
+use lib.ListN.{length}
 use borrow.Author.Tests.{ne-eqb, not-false}
 use Rattle.calendar.proofs.Promise.{facts-right, past-period}
 use Rattle.calendar.specs.WinterOf.{winterOf}
-use Rattle.laws.proofs.Refusals.{kept}
 use Rattle.calendar.specs.Days.{noDay, inPeriod}
 use Rattle.calendar.specs.Weekdays.{weekend}
 use Rattle.calendar.specs.declared.answers.Kind.{Kind}
 use Rattle.calendar.specs.declared.answers.Winter.{Winter}
+use Rattle.laws.proofs.Tables.{row-goes}
 use Rattle.laws.specs.Answer.{Answer}
-use Rattle.laws.specs.Table.{refusalAt}
+use Rattle.laws.specs.Table.{row, firstOf}
 use Rattle.notices.specs.Notices.{hoursOf}
 use Rattle.notices.specs.Profiles.{figuresOf, named}
 use Rattle.notices.specs.declared.notices.Notice.{Notice}
@@ -23,7 +24,7 @@ use Rattle.notices.specs.declared.profiles.Figures.{Figures}
 use Rattle.notices.specs.declared.profiles.Named.the-variants.{Is, NoProfile}
 use Rattle.notices.specs.declared.profiles.Named.{Named}
 use Rattle.notices.specs.declared.profiles.Profile.{Profile}
-use Rattle.schedule.specs.ListCheck.{listAnswer, checkedIn, namedAnswer}
+use Rattle.schedule.specs.ListCheck.{noticesTable, badList, noProfile, namedFigures, checkedIn}
 use Rattle.schedule.specs.Rules.{outsidePeriod, onExcludedDay, barredWeekend, OnDay, sameBand, overLimit}
 use Rattle.schedule.specs.declared.rules.Sofar.{Sofar}
 
@@ -70,14 +71,24 @@ pub limit-is : (f : Figures) (so : Sofar) (n : Notice) (h : ℕ) → h ≡ hours
 unfolding overLimit
 limit-is f so n h e = rw e
 
-pub no-profile : (w : Winter) (q : ℕ) (l : List ℕ) (x : Named) → x ≡ named q → x ≡ NoProfile → refusalAt 5 0 ≡ namedAnswer w (named q) l
-no-profile w q l x e n = rw (← e, n)
+-- rule 5, by the profile that a number names
+pub no-profile : (q : ℕ) (x : Named) → x ≡ named q → x ≡ NoProfile → noProfile (named q) ≡ true
+no-profile q x e n = rw (← e, n)
 
--- and for a winter's own facts the check by these is the one by the year
-pub checked-right : (y : ℕ) (p : Profile) (l : List ℕ) → checkedIn (winterOf y) p l ≡ listAnswer (winterOf y) (figuresOf p) l
+-- for a winter's own facts row 1 of the check by these is kept
+pub checked-right : (y : ℕ) (p : Profile) (l : List ℕ)
+    → checkedIn (winterOf y) p l ≡ firstOf (row 4 0 (badList (length l)) ∷ noticesTable (winterOf y) (figuresOf p) l)
 unfolding checkedIn
-checked-right y p l = sym (kept (refusalAt 1 0) (facts-right y) refl)
+checked-right y p l = sym (row-goes _ _ (facts-right y) refl)
 
+-- past row 4 the notices decide
+pub checked-notices : (y : ℕ) (p : Profile) (l : List ℕ) → badList (length l) ≡ false
+    → checkedIn (winterOf y) p l ≡ firstOf (noticesTable (winterOf y) (figuresOf p) l)
+checked-notices y p l e = checked-right y p l ∙ sym (row-goes _ _ e refl)
+
+-- so the check by a profile that is named and by a winter's facts is past row 1 the check by their numbers
 pub of-profile : (y q : ℕ) (l : List ℕ) (x : Named) (p : Profile) (w : Winter) {a : Answer} → x ≡ named q → x ≡ Is p → w ≡ winterOf y → a ≡ checkedIn w p l
-    → a ≡ namedAnswer (winterOf y) (named q) l
-of-profile y q l x p w e n g r = rw (← e, n) (r ∙ ap (λ (w : Winter). checkedIn w p l) g ∙ checked-right y p l)
+    → a
+    ≡ firstOf
+    (row 5 0 (noProfile (named q)) ∷ row 4 0 (badList (length l)) ∷ noticesTable (winterOf y) (namedFigures (named q)) l)
+of-profile y q l x p w e n g r = rw (← e, n) (row-goes _ _ refl (r ∙ ap (λ (v : Winter). checkedIn v p l) g ∙ checked-right y p l))

@@ -3,17 +3,13 @@
 -- events are seven hours apart.
 -- Assumes nothing.
 use Prim.Native.Nat.{ℕ, zero, suc, _+_, _-_, _*_, _≤_, _<_}
-use mathlib.Core.Bool.{false}
+use mathlib.Core.Bool.{false, true≢false}
 use mathlib.Core.List.{List}
 use mathlib.Core.Logic.{_⊎_, inl, inr, ⊎-elim}
-use mathlib.Core.Path.{_≡_, refl, sym, ap, _∙_}
+use mathlib.Core.Path.{_≡_, refl, sym, _∙_}
 use native.Mathlib.Nat.{eq-or-lt-of-le}
 use native.Mathlib.Omega.{arith}
 use borrow.Author.Tests.{lt-ltb, le-ltb}
-use Rattle.calendar.specs.WinterOf.{winterOf}
-use Rattle.dates.specs.Winters.{noWinter}
-use Rattle.laws.proofs.Tables.{refuse-accepted}
-use Rattle.laws.specs.Answer.{Answer}
 use Rattle.laws.specs.Table.{accepted}
 use Rattle.notices.proofs.HourLaws.{Morning, Evening}
 use Rattle.notices.proofs.ProfileLaws.{power-option-morning}
@@ -26,8 +22,8 @@ use Rattle.notices.specs.declared.profiles.Named.the-variants.{Is, NoProfile}
 use Rattle.notices.specs.declared.profiles.Named.{Named}
 use Rattle.notices.specs.declared.profiles.Profile.the-variants.{PowerOption}
 use Rattle.notices.specs.declared.profiles.Profile.{Profile}
-use Rattle.schedule.specs.ListCheck.{namedAnswer, checkAnswer}
-use Rattle.schedule.proofs.Accepted.{Lawful, list-lawful, accepted-iff-lawful}
+use Rattle.schedule.specs.ListCheck.{noProfile, namedFigures, checkAnswer}
+use Rattle.schedule.proofs.Accepted.{Lawful, notices-lawful, check-clear, accepted-iff-lawful}
 use Rattle.schedule.proofs.Lawful.{Sound, Alike, Follows}
 use Rattle.schedule.proofs.Standing.{Stands, Later, Standing}
 
@@ -111,13 +107,13 @@ pub record LawfulBy (w q : ℕ) (l : List ℕ) : Type 0 where
   pub lawful : Lawful w (figuresOf profile) l
 
 pub accepted-lawful : (w q : ℕ) (l : List ℕ) → checkAnswer w q l ≡ accepted → LawfulBy w q l
-unfolding checkAnswer
 accepted-lawful w q l e =
-    let p = refuse-accepted (noWinter w) 1 0 (namedAnswer (winterOf w) (named q) l) (omega arith) e in by (p .0) (named q) refl (p .1)
+    let c = check-clear w q l e in
+    by (named q) refl (c .profile) (notices-lawful w (namedFigures (named q)) l (c .winter) (c .list) (c .notices))
   where
-    by : noWinter w ≡ false → (x : Named) → named q ≡ x → namedAnswer (winterOf w) x l ≡ accepted → LawfulBy w q l
-    by v (Is p) n a = record { profile = p; number = n; lawful = list-lawful w (figuresOf p) l v a }
-    by v NoProfile n a = let z : _≡_ {A = ℕ} 5 0 = ap (λ (a : Answer). a .number) a in absurd (omega arith)
+    by : (x : Named) → named q ≡ x → noProfile x ≡ false → Lawful w (namedFigures x) l → LawfulBy w q l
+    by (Is p) n e r = record { profile = p; number = n; lawful = r }
+    by NoProfile n e r = absurd (true≢false e)
 
 pub accepted-standing : (w q : ℕ) (l : List ℕ) → checkAnswer w q l ≡ accepted → Standing w l
 accepted-standing w q l e =

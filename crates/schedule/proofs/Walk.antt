@@ -11,19 +11,19 @@ use lib.Dec.{ltb, eqb}
 use borrow.Author.Tests.{ltb-false, eqb-true, not-false}
 use Rattle.calendar.specs.declared.answers.Winter.{Winter}
 use Rattle.laws.proofs.Guards.{neither}
-use Rattle.laws.proofs.Tables.{Numbered, NoneBroken, accepted-none, none-accepted, not-refused, else-stop, else-go, in-parts}
-use Rattle.laws.proofs.Walks.{Walked, walked-none, walked-next, walked-stop, walked-all}
+use Rattle.laws.proofs.Tables.{Numbered, NoneBroken, unrefused-none, part-stops, part-goes}
+use Rattle.laws.proofs.Walks.{Walked, walk-numbered, walked-none, walked-next, walked-stop, walked-all}
 use Rattle.laws.specs.Answer.{Answer}
-use Rattle.laws.specs.Table.{accepted, firstOf, isRefusal, orElse}
-use Rattle.laws.specs.Walk.{walk}
+use Rattle.laws.specs.Rows.{rowsTo}
+use Rattle.laws.specs.Table.{accepted, firstOf, isRefusal}
 use Rattle.notices.proofs.HourLaws.{hours-fit}
 use Rattle.notices.proofs.NoticeLaws.{hours-none, hours-next}
 use Rattle.notices.specs.Hours.{badHours, badLength}
-use Rattle.notices.specs.Notices.{noticeAt, hoursOf, hoursTo}
+use Rattle.notices.specs.Notices.{countOf, noticeAt, hoursOf, hoursTo}
 use Rattle.notices.specs.Sane.{Sane}
 use Rattle.notices.specs.declared.notices.Notice.{Notice}
 use Rattle.notices.specs.declared.profiles.Figures.{Figures}
-use Rattle.schedule.specs.ListCheck.{ownRows, listRows, noticeRows, noticeAnswer, nothingBefore, afterNotice, sofarAt, answerAt, badList}
+use Rattle.schedule.specs.ListCheck.{ownRows, listRows, noticeRows, nothingBefore, afterNotice, sofarAt, rowsAt, noticesTable, badList}
 use Rattle.schedule.specs.Rules.{outsidePeriod, onExcludedDay, barredWeekend, startsBefore, sameBand, overLimit}
 use Rattle.schedule.specs.declared.rules.Sofar.{Sofar}
 
@@ -49,7 +49,7 @@ pub record Passed (w : Winter) (f : Figures) (so : Sofar) (n : Notice) : Type 0 
   pub limit : overLimit f so n ≡ false
 
 module _ (w : Winter) (f : Figures) (so : Sofar) (n : Notice) where
-  none-passed : (k : ℕ) → NoneBroken (noticeRows w f so n k) → Passed w f so n
+  pub none-passed : (k : ℕ) → NoneBroken (noticeRows w f so n k) → Passed w f so n
   unfolding noticeRows ownRows listRows
   none-passed k t =
       record {
@@ -63,20 +63,13 @@ module _ (w : Winter) (f : Figures) (so : Sofar) (n : Notice) where
         limit = t .1 .1 .1 .1 .1 .1 .1 .0;
       }
 
-  passed-none : (k : ℕ) → Passed w f so n → NoneBroken (noticeRows w f so n k)
+  pub passed-none : (k : ℕ) → Passed w f so n → NoneBroken (noticeRows w f so n k)
   unfolding noticeRows ownRows listRows
   passed-none k t =
       (t .period, (t .open-day, (t .week, (t .hours, (t .long, (t .order, (t .apart, (t .limit, tt))))))))
 
-  pub passed : (k : ℕ) → isRefusal (noticeAnswer w f so n k) ≡ false → Passed w f so n
-  unfolding noticeAnswer
-  passed k e =
-      let numbered = notice-numbered w f so n k in
-      none-passed k (accepted-none (noticeRows w f so n k) numbered (not-refused (noticeRows w f so n k) numbered e))
-
-  pub passed-accepted : (k : ℕ) → Passed w f so n → noticeAnswer w f so n k ≡ accepted
-  unfolding noticeAnswer
-  passed-accepted k t = none-accepted (noticeRows w f so n k) (passed-none k t)
+  passed : (k : ℕ) → isRefusal (firstOf (noticeRows w f so n k)) ≡ false → Passed w f so n
+  passed k e = none-passed k (unrefused-none (noticeRows w f so n k) (notice-numbered w f so n k) e)
 
 -- the sum of a notice that is not refused fits
 
@@ -88,15 +81,22 @@ module _ (w : Winter) (f : Figures) (so : Sofar) (n : Notice) (ok : Sane f) (t :
 -- the two parts of a notice's rules: its own first, and then those of the list
 
 module _ (w : Winter) (f : Figures) (so : Sofar) (n : Notice) (k : ℕ) {a : Answer} (own : a ≡ firstOf (ownRows w f n k)) where
-  parts : noticeAnswer w f so n k ≡ orElse a (firstOf (listRows f so n k))
-  unfolding noticeAnswer noticeRows
-  parts = rw own (in-parts (ownRows w f n k) (listRows f so n k) (own-numbered w f n k))
+  pub notice-stop : isRefusal a ≡ true → a ≡ firstOf (noticeRows w f so n k)
+  unfolding noticeRows
+  notice-stop e = own ∙ part-stops (ownRows w f n k) (listRows f so n k) (ap isRefusal (sym own) ∙ e)
 
-  pub notice-stop : isRefusal a ≡ true → a ≡ noticeAnswer w f so n k
-  notice-stop e = else-stop a (firstOf (listRows f so n k)) e ∙ sym parts
+  pub notice-go : {b : Answer} → isRefusal a ≡ false → b ≡ firstOf (listRows f so n k) → b ≡ firstOf (noticeRows w f so n k)
+  unfolding noticeRows
+  notice-go e q =
+      let kept = unrefused-none (ownRows w f n k) (own-numbered w f n k) (ap isRefusal (sym own) ∙ e) in
+      q ∙ part-goes (ownRows w f n k) (listRows f so n k) kept
 
-  pub notice-go : {b : Answer} → isRefusal a ≡ false → b ≡ firstOf (listRows f so n k) → b ≡ noticeAnswer w f so n k
-  notice-go e q = else-go a (firstOf (listRows f so n k)) e q ∙ sym parts
+pub rows-numbered : (w : Winter) (f : Figures) (l : List ℕ) (k : ℕ) → Numbered (rowsAt w f l k)
+unfolding rowsAt
+rows-numbered w f l k = notice-numbered w f (sofarAt l k) (noticeAt l k) k
+
+pub notices-numbered : (w : Winter) (f : Figures) (l : List ℕ) → Numbered (noticesTable w f l)
+notices-numbered w f l = walk-numbered (rowsAt w f l) (rows-numbered w f l) (countOf l)
 
 pub sofar-hours : (l : List ℕ) (k : ℕ) → sofarAt l k .hours ≡ hoursTo l k
 unfolding sofarAt
@@ -112,22 +112,22 @@ sofar-next l k = rw (add-one k, sofar-hours l k, hours-next l k)
 pub record Held (w : Winter) (f : Figures) (l : List ℕ) (n : ℕ) (so : Sofar) (k : ℕ) : Type 0 where
   pub small : so .hours ≤ 100
   pub same : so ≡ sofarAt l k
-  pub walked : Walked (answerAt w f l) n k
+  pub walked : Walked (rowsAt w f l) n k
 
 pub held-start : (w : Winter) (f : Figures) (l : List ℕ) (n : ℕ) (so : Sofar) → so ≡ nothingBefore → Held w f l n so 0
 unfolding sofarAt
 held-start w f l n so e = record { small = rw e (omega arith); same = e; walked = walked-none }
 
 module _ {w : Winter} {f : Figures} {l : List ℕ} {n : ℕ} {so : Sofar} {k : ℕ} (h : Held w f l n so k) where
-  pub held-done : n ≤ k → accepted ≡ walk (answerAt w f l) n 0
+  pub held-done : n ≤ k → accepted ≡ firstOf (rowsTo (rowsAt w f l) n)
   held-done = walked-all (h .walked)
 
-  module _ {m : Notice} {a : Answer} (at : m ≡ noticeAt l k) (said : a ≡ noticeAnswer w f so m k) where
-    answer-is : a ≡ answerAt w f l k
-    unfolding answerAt
+  module _ {m : Notice} {a : Answer} (at : m ≡ noticeAt l k) (said : a ≡ firstOf (noticeRows w f so m k)) where
+    answer-is : a ≡ firstOf (rowsAt w f l k)
+    unfolding rowsAt
     answer-is = said ∙ rw (h .same, at)
 
-    pub held-stop : k < n → isRefusal a ≡ true → a ≡ walk (answerAt w f l) n 0
+    pub held-stop : k < n → isRefusal a ≡ true → a ≡ firstOf (rowsTo (rowsAt w f l) n)
     held-stop = walked-stop (h .walked) answer-is
 
     passed-here : isRefusal a ≡ false → Passed w f so m
@@ -142,7 +142,7 @@ module _ {w : Winter} {f : Figures} {l : List ℕ} {n : ℕ} {so : Sofar} {k : �
         record {
           small = rw q (sum-fits w f so m ok (passed-here t));
           same = q ∙ rw (h .same, at) (sofar-next l k);
-          walked = walked-next (h .walked) answer-is e t;
+          walked = walked-next (h .walked) answer-is e (rows-numbered w f l k) t;
         }
 
 -- a list of whole triples, not more than 100, holds at most 100 notices

@@ -1,9 +1,9 @@
--- The list check: the tables of rules, and the order in which they are tried.
+-- The list check: its table of rules, in the order in which they are tried.
 -- "Order: list check 1, 5, 4, then the notices; .. Numbers 10 to 18 are tried in that order for the first notice, then the next; the
 -- place is the notice's index from 0."
 -- Assumes nothing.
 use Prim.Native.Nat.{ℕ, zero, suc, _+_, _%_}
-use mathlib.Core.Bool.{Bool, not, _||_}
+use mathlib.Core.Bool.{Bool, true, false, not, _||_}
 use mathlib.Core.List.{List, [], _∷_, _++_}
 use lib.Dec.{ltb, eqb}
 use lib.ListN.{length}
@@ -11,9 +11,9 @@ use Rattle.calendar.specs.Days.{wrongWinter}
 use Rattle.calendar.specs.WinterOf.{winterOf}
 use Rattle.calendar.specs.declared.answers.Winter.{Winter}
 use Rattle.dates.specs.Winters.{noWinter}
-use Rattle.laws.specs.Answer.{Answer, refuse}
-use Rattle.laws.specs.Table.{refusalAt, Row, row, firstOf}
-use Rattle.laws.specs.Walk.{walk}
+use Rattle.laws.specs.Answer.{Answer}
+use Rattle.laws.specs.Rows.{rowsTo}
+use Rattle.laws.specs.Table.{Row, row, firstOf}
 use Rattle.notices.specs.Hours.{badHours, badLength}
 use Rattle.notices.specs.Notices.{countOf, noNotice, noticeAt, hoursOf, hoursTo}
 use Rattle.notices.specs.Profiles.{figuresOf, named}
@@ -21,6 +21,7 @@ use Rattle.notices.specs.declared.notices.Notice.{Notice}
 use Rattle.notices.specs.declared.profiles.Figures.{Figures}
 use Rattle.notices.specs.declared.profiles.Named.the-variants.{Is, NoProfile}
 use Rattle.notices.specs.declared.profiles.Named.{Named}
+use Rattle.notices.specs.declared.profiles.Profile.the-variants.{Credit}
 use Rattle.notices.specs.declared.profiles.Profile.{Profile}
 use Rattle.schedule.specs.Rules.{outsidePeriod, onExcludedDay, barredWeekend, startsBefore, sameBand, overLimit}
 use Rattle.schedule.specs.declared.rules.Sofar.{Sofar}
@@ -47,9 +48,6 @@ listRows f so n k =
 unfoldable pub noticeRows : Winter → Figures → Sofar → Notice → ℕ → List Row
 noticeRows w f so n k = ownRows w f n k ++ listRows f so n k
 
-unfoldable pub noticeAnswer : Winter → Figures → Sofar → Notice → ℕ → Answer
-noticeAnswer w f so n k = firstOf (noticeRows w f so n k)
-
 -- what stands before a notice: before the first, none; before the next, this notice and the hours with it
 abbrev pub nothingBefore : Sofar
 nothingBefore = record { last = noNotice; hours = 0 }
@@ -61,26 +59,42 @@ unfoldable pub sofarAt : List ℕ → ℕ → Sofar
 sofarAt l zero = nothingBefore
 sofarAt l (suc k) = record { last = noticeAt l k; hours = hoursTo l (suc k) }
 
-unfoldable pub answerAt : Winter → Figures → List ℕ → ℕ → Answer
-answerAt w f l k = noticeAnswer w f (sofarAt l k) (noticeAt l k) k
+-- the rows of the notice at index k of a list, and those of all its notices, one after another
+unfoldable pub rowsAt : Winter → Figures → List ℕ → ℕ → List Row
+rowsAt w f l k = noticeRows w f (sofarAt l k) (noticeAt l k) k
+
+abbrev pub noticesTable : Winter → Figures → List ℕ → List Row
+noticesTable w f l = rowsTo (rowsAt w f l) (countOf l)
 
 -- "4: list not whole triples, or more than 100"
 unfoldable pub badList : ℕ → Bool
 badList length = not (eqb (length % 3) 0) || ltb 300 length
 
--- the list by a profile's figures
-unfoldable pub listAnswer : Winter → Figures → List ℕ → Answer
-listAnswer w f l = refuse (badList (length l)) (refusalAt 4 0) (walk (answerAt w f l) (countOf l) 0)
-
--- the list in a winter under a profile; anything may be handed over as a winter's facts
-unfoldable pub checkedIn : Winter → Profile → List ℕ → Answer
-checkedIn w p l = refuse (wrongWinter w) (refusalAt 1 0) (listAnswer w (figuresOf p) l)
-
 -- "5: profile neither 1 nor 2"
-abbrev pub namedAnswer : Winter → Named → List ℕ → Answer
-namedAnswer w (Is p) l = listAnswer w (figuresOf p) l
-namedAnswer w NoProfile l = refusalAt 5 0
+abbrev pub noProfile : Named → Bool
+noProfile (Is p) = false
+noProfile NoProfile = true
 
--- "1: Y outside 2010..2098"
+-- the figures of the profile that is named; where none is, number 5 is given before a figure counts
+abbrev pub namedFigures : Named → Figures
+namedFigures (Is p) = figuresOf p
+namedFigures NoProfile = figuresOf Credit
+
+-- the whole table, and the first row of it that is broken
+unfoldable pub checkTable : ℕ → ℕ → List ℕ → List Row
+checkTable y q l =
+    row 1 0 (noWinter y)
+    ∷ row 5 0 (noProfile (named q))
+    ∷ row 4 0 (badList (length l))
+    ∷ noticesTable (winterOf y) (namedFigures (named q)) l
+
 unfoldable pub checkAnswer : ℕ → ℕ → List ℕ → Answer
-checkAnswer y q l = refuse (noWinter y) (refusalAt 1 0) (namedAnswer (winterOf y) (named q) l)
+checkAnswer y q l = firstOf (checkTable y q l)
+
+-- the same for a profile and a winter's facts; anything may be handed over as these
+unfoldable pub checkedIn : Winter → Profile → List ℕ → Answer
+checkedIn w p l =
+    firstOf
+    (row 1 0 (wrongWinter w)
+    ∷ row 4 0 (badList (length l))
+    ∷ noticesTable w (figuresOf p) l)

@@ -4,12 +4,12 @@ ghost use mathlib.Core.Bool.{false};
 ghost use Rattle.calendar.specs.Days.{wrongWinter};
 ghost use Prim.Native.Nat.{_≤_, _<_};
 ghost use lib.ListN.{length};
+ghost use Rattle.laws.specs.Rows.{rowsTo};
 ghost use Rattle.laws.specs.Table.{firstOf};
-ghost use Rattle.laws.specs.Walk.{walk};
 ghost use Rattle.notices.specs.Notices.{countOf, noticeAt, hoursOf};
 ghost use Rattle.notices.specs.Sane.{Sane};
 ghost use Rattle.schedule.specs.Verdicts.{verdictPaper};
-ghost use Rattle.schedule.specs.ListCheck.{ownRows, listRows, noticeAnswer, nothingBefore, afterNotice, answerAt, badList, checkedIn, checkAnswer};
+ghost use Rattle.schedule.specs.ListCheck.{ownRows, listRows, noticeRows, nothingBefore, afterNotice, rowsAt, badList, checkedIn, checkAnswer};
 use crate::rules::Sofar;
 use crate::rules::barred_weekend;
 use crate::rules::kind_on;
@@ -70,7 +70,7 @@ fn list_verdict(f: Figures, so: Sofar, n: Notice, k: u32) -> Verdict
 // All rules of the notice at place k.
 fn notice_verdict(w: Winter, f: Figures, so: Sofar, n: Notice, k: u32) -> Verdict
     requires { ⌜ wrongWinter w ≡ false ⌝ }
-    ensures { λ r. ⌜ verdictPaper r ≡ noticeAnswer w f so n k ⌝ }
+    ensures { λ r. ⌜ verdictPaper r ≡ firstOf (noticeRows w f so n k) ⌝ }
 {
     let own = own_verdict(w, f, n, k);
     if is_refused(own) {
@@ -118,7 +118,7 @@ fn notice_in(list: &[u32], k: usize) -> Notice
 // The first refusal among the notices of a list.
 fn check_notices(w: Winter, f: Figures, list: &[u32], count: usize) -> Verdict
     requires { ⌜ (wrongWinter w ≡ false) × Sane f × (count ≤ 100) × (count ≤ countOf (now list)) ⌝ }
-    ensures { λ r. ⌜ verdictPaper r ≡ walk (answerAt w f (now (list .entry))) count 0 ⌝ }
+    ensures { λ r. ⌜ verdictPaper r ≡ firstOf (rowsTo (rowsAt w f (now (list .entry))) count) ⌝ }
 {
     let mut so = nothing_before();
     let mut k: usize = 0;

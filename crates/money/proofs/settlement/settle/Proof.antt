@@ -62,7 +62,7 @@ returns-3 c =
     let none = known .before .before .before in
     let a = none .before .before .before .before .before .args in
     let is = winter-known _ _ _ (known .known .given .1) (known .before .before .winter-of .ensures) in
-    let notices = refusal-notices (a .winter) (length (a .book .now)) (a .price) (a .list .now) (length (a .out .now)) _ (none .before .call-refusal .ensures) (none .if1 .left) (is .0) in (
+    let notices = refusal-notices (a .winter) (length (a .book .now)) (a .price) (a .list .now) (length (a .out .now)) _ (none .before .call-refusal .ensures) (none .if1 .left) in (
       lines .settle-in .ensures .0 ∙ settled-in (a .winter) (a .price) (a .book .now) (a .list .now) _ (is .0) (is .1) (length (a .out .now)) notices,
       lines .settle-in .ensures .1 ∙ written-in (a .winter) (a .price) (a .book .now) (a .list .now) _ (is .0) (is .1) (a .out .now) notices,
     )

@@ -2,8 +2,8 @@
 -- Assumes nothing.
 use borrow.Author.Needs.{needs}
 use Rattle.calendar.proofs.OneOutcome.{no-winter-known, winter-known}
-use Rattle.laws.proofs.Refusals.{refused, kept}
-use Rattle.schedule.specs.ListCheck.{checkAnswer}
+use Rattle.laws.proofs.Tables.{row-stops, row-goes}
+use Rattle.schedule.specs.ListCheck.{checkTable, checkAnswer}
 use Rattle.schedule.proofs.RuleLaws.{no-profile, of-profile}
 use Rattle.schedule.proofs.list_check.check.Statement.{statement}
 use Rattle.schedule.proofs.list_check.check.Tie as tie
@@ -18,8 +18,8 @@ enum-told : tie.Need-enum-told
 enum-told c = search needs
 
 returns : tie.Need-returns
-unfolding checkAnswer
-returns c = refused _ _ (no-winter-known _ _ (c .enum-told .given .1) (c .before .before .winter-of .ensures))
+unfolding checkAnswer checkTable
+returns c = row-stops _ _ (no-winter-known _ _ (c .enum-told .given .1) (c .before .before .winter-of .ensures))
 
 profile-named-requires : tie.Need-profile-named-requires
 profile-named-requires c κs = search needs
@@ -31,22 +31,22 @@ enum-told-2 : tie.Need-enum-told-2
 enum-told-2 c = search needs
 
 returns-2 : tie.Need-returns-2
-unfolding checkAnswer
+unfolding checkAnswer checkTable
 returns-2 c =
     let known = c .before .before .before .before in
     let is = winter-known _ _ _ (known .known .given .1) (known .before .before .winter-of .ensures) in
-    kept _ (is .0) (no-profile _ _ _ _ (c .before .before .profile-named .ensures) (c .enum-told2 .given .1))
+    row-goes _ _ (is .0) (row-stops _ _ (no-profile _ _ (c .before .before .profile-named .ensures) (c .enum-told2 .given .1)))
 
 check-in-requires : tie.Need-check-in-requires
 check-in-requires c κs = search needs
 
 returns-3 : tie.Need-returns-3
-unfolding checkAnswer
+unfolding checkAnswer checkTable
 returns-3 c =
     let named = c .before .before in
     let known = named .before .before .before .before in
     let is = winter-known _ _ _ (known .known .given .1) (known .before .before .winter-of .ensures) in
-    kept _ (is .0)
+    row-goes _ _ (is .0)
     (of-profile _ _ _ _ _ _ (named .before .before .profile-named .ensures) (named .named .given .1) (is .1) (c .check-in .ensures))
 
 pub check-spec : {M : Type 1} → statement M

@@ -3,9 +3,9 @@
 use native.Mathlib.Omega.{arith}
 use borrow.Author.Needs.{needs}
 use Rattle.laws.proofs.Guards.{found}
-use Rattle.laws.proofs.Refusals.{refused, kept}
+use Rattle.laws.proofs.Tables.{row-stops, row-goes}
 use Rattle.notices.specs.Sane.{sane}
-use Rattle.schedule.specs.ListCheck.{listAnswer, checkedIn}
+use Rattle.schedule.specs.ListCheck.{checkedIn}
 use Rattle.schedule.proofs.Walk.{list-fits}
 use Rattle.schedule.proofs.list_check.check_in.Statement.{statement}
 use Rattle.schedule.proofs.list_check.check_in.Tie as tie
@@ -15,16 +15,17 @@ wrong-winter-requires c κs = search needs
 
 returns : tie.Need-returns
 unfolding checkedIn
-returns c = refused _ _ (found (c .before .wrong-winter .ensures) (c .if1 .taken))
+returns c = row-stops _ _ (found (c .before .wrong-winter .ensures) (c .if1 .taken))
 
 bad-list-requires : tie.Need-bad-list-requires
 bad-list-requires c κs = search needs
 
 returns-2 : tie.Need-returns-2
-unfolding checkedIn listAnswer
+unfolding checkedIn
 returns-2 c =
     let right = c .before .before in
-    kept _ (found (right .before .wrong-winter .ensures) (right .if1 .left)) (refused _ _ (found (c .before .bad-list .ensures) (c .if2 .taken)))
+    row-goes _ _ (found (right .before .wrong-winter .ensures) (right .if1 .left))
+    (row-stops _ _ (found (c .before .bad-list .ensures) (c .if2 .taken)))
 
 figures-requires : tie.Need-figures-requires
 figures-requires c κs = search needs
@@ -37,12 +38,12 @@ check-notices-requires c κs =
     (found (right .before .wrong-winter .ensures) (right .if1 .left), rw (c .figures .ensures) (sane _), omega arith, omega arith)
 
 returns-3 : tie.Need-returns-3
-unfolding checkedIn listAnswer
+unfolding checkedIn
 returns-3 c =
     let whole = c .before .before in
     let right = whole .before .before in
-    kept _ (found (right .before .wrong-winter .ensures) (right .if1 .left))
-    (kept _ (found (whole .before .bad-list .ensures) (whole .if2 .left)) (rw (← c .before .figures .ensures) (c .check-notices .ensures)))
+    row-goes _ _ (found (right .before .wrong-winter .ensures) (right .if1 .left))
+    (row-goes _ _ (found (whole .before .bad-list .ensures) (whole .if2 .left)) (rw (← c .before .figures .ensures) (c .check-notices .ensures)))
 
 pub check-in-spec : {M : Type 1} → statement M
 check-in-spec =
