@@ -27,8 +27,9 @@ pub fn masks_of(list: &[u32]) -> [u32; 152]
     ensures { λ r. ⌜ r ≡ masksOf (now (list .entry)) ⌝ }
 {
     let mut masks = [0u32; 152];
+    let count = notices::count_in(list.len());
     let mut k: usize = 0;
-    while k < list.len() / 3 {
+    while k < count {
         let n = notices::notice_at(list, k);
         mark_hours(&mut masks, n);
         k += 1;

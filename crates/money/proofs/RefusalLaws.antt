@@ -1,7 +1,7 @@
 -- Laws of the refusals, one for each way out: what each guard refuses with the days that the calendar gave, and what is known of a call
 -- that is not refused.
 -- Assumes nothing.
-use Prim.Native.Nat.{ℕ, _*_, _/_, _%_, _≤_}
+use Prim.Native.Nat.{ℕ, _*_, _%_, _≤_}
 use mathlib.Core.Bool.{true, false, not, _||_}
 use mathlib.Core.List.{List, _++_}
 use mathlib.Core.Path.{_≡_, refl, sym, ap, subst, _∙_}
@@ -19,7 +19,7 @@ use Rattle.laws.proofs.Every.{left, right, joined}
 use Rattle.laws.proofs.Guards.{neither}
 use Rattle.laws.proofs.Tables.{Numbered, NoneBroken, row-stops, row-goes, rows-end, unrefused-none, none-accepted, part-stops, part-goes, Within, Bounded, within-first, within-parts}
 use Rattle.laws.specs.Table.{refusalAt, Row, firstOf, isRefusal}
-use Rattle.notices.specs.Notices.{countOf}
+use Rattle.notices.specs.Notices.{noticeNumbers, mostNotices, countIn, countOf}
 use Rattle.notices.specs.Profiles.{figuresOf}
 use Rattle.notices.specs.declared.profiles.Profile.the-variants.{Credit}
 use Rattle.schedule.proofs.Accepted.{Lawful, whole-test, notices-lawful, lawful-notices}
@@ -69,9 +69,9 @@ pub record RightCall (w readings p numbers room : ℕ) : Type 0 where
   pub winter : (2010 ≤ w) × (w ≤ 2098)
   pub book : readings ≡ 24 * days w
   pub price : (1 ≤ p) × (p ≤ 1000000)
-  pub whole : numbers % 3 ≡ 0
-  pub few : numbers / 3 ≤ 100
-  pub room-for : 4 * (numbers / 3) ≤ room
+  pub whole : numbers % noticeNumbers ≡ 0
+  pub few : countIn numbers ≤ mostNotices
+  pub room-for : 4 * countIn numbers ≤ room
 
 call-numbered : (w readings p numbers room : ℕ) → Numbered (callRows w readings p numbers room)
 unfolding callRows
@@ -85,9 +85,9 @@ none-right w readings p numbers room none =
       winter = winter-range w .0 (none .0);
       book = eqb-true readings (24 * days w) (not-false _ (none .1 .0));
       price = (ltb-false p 1 (prices .0), ltb-false 1000000 p (prices .1));
-      whole = list-fits numbers (none .1 .1 .1 .0) .0;
-      few = list-fits numbers (none .1 .1 .1 .0) .1;
-      room-for = ltb-false room (4 * (numbers / 3)) (none .1 .1 .1 .1 .0);
+      whole = list-fits numbers (none .1 .1 .1 .0) .whole;
+      few = list-fits numbers (none .1 .1 .1 .0) .few;
+      room-for = ltb-false room (4 * countIn numbers) (none .1 .1 .1 .1 .0);
     }
 
 right-none : (w readings p numbers room : ℕ) → RightCall w readings p numbers room → NoneBroken (callRows w readings p numbers room)
@@ -95,7 +95,7 @@ unfolding callRows badBook badPrice shortOutput
 right-none w readings p numbers room s =
     let prices : (ltb p 1 || ltb 1000000 p) ≡ false = rw (le-ltb p 1 (s .price .0), le-ltb 1000000 p (s .price .1)) refl in
     let book : not (eqb readings (24 * days w)) ≡ false = rw (eq-eqb readings (24 * days w) (s .book)) refl in
-    (winter-range w .1 (s .winter), (book, (prices, (whole-test numbers (s .whole) (s .few), (le-ltb room (4 * (numbers / 3)) (s .room-for), tt)))))
+    (winter-range w .1 (s .winter), (book, (prices, (whole-test numbers (s .whole) (s .few), (le-ltb room (4 * countIn numbers) (s .room-for), tt)))))
 
 pub call-right : (w readings p numbers room : ℕ) → isRefusal (firstOf (callRows w readings p numbers room)) ≡ false → RightCall w readings p numbers room
 call-right w readings p numbers room e =

@@ -1,7 +1,7 @@
 -- The refusals of a settlement.
 -- "Order: .. settlement 1, 2, 3, 4, 6, then the notices under profile 1".
 -- Assumes nothing.
-use Prim.Native.Nat.{ℕ, _*_, _/_}
+use Prim.Native.Nat.{ℕ, _*_}
 use mathlib.Core.Bool.{Bool, not, _||_}
 use mathlib.Core.List.{List, [], _∷_, _++_}
 use lib.Dec.{ltb, eqb}
@@ -10,6 +10,7 @@ use Rattle.calendar.specs.WinterOf.{winterOf}
 use Rattle.dates.specs.Winters.{noWinter, days}
 use Rattle.laws.specs.Answer.{Answer}
 use Rattle.laws.specs.Table.{Row, row, firstOf}
+use Rattle.notices.specs.Notices.{countIn}
 use Rattle.notices.specs.Profiles.{figuresOf}
 use Rattle.notices.specs.declared.profiles.Profile.the-variants.{Credit}
 use Rattle.schedule.specs.ListCheck.{noticesTable, badList}
@@ -22,9 +23,9 @@ badBook w readings = not (eqb readings (24 * days w))
 unfoldable pub badPrice : ℕ → Bool
 badPrice p = ltb p 1 || ltb 1000000 p
 
--- "6: output has fewer than 4 numbers a notice"; a list has three numbers a notice
+-- "6: output has fewer than 4 numbers a notice", by how many numbers the list has
 unfoldable pub shortOutput : ℕ → ℕ → Bool
-shortOutput numbers room = ltb room (4 * (numbers / 3))
+shortOutput numbers room = ltb room (4 * countIn numbers)
 
 -- by winter and price, and by how many numbers the book, the list and the output have
 unfoldable pub callRows : ℕ → ℕ → ℕ → ℕ → ℕ → List Row

@@ -15,7 +15,7 @@ fn bad_price(price: u32) -> bool
 fn short_output(numbers: usize, room: usize) -> bool
     ensures { λ r. ⌜ r ≡ shortOutput numbers room ⌝ }
 {
-    room / 4 < numbers / 3
+    room / 4 < notices::count_in(numbers)
 }
 
 // The number by which a settlement is refused whatever its readings and notices are, 0 if it is not: by winter and price, and by how many

@@ -43,7 +43,8 @@ fn settle_accepted(w: Winter, book: &[u32], price: u32, list: &[u32], out: &mut 
         (countOf (now (list .entry))) (now (out .entry)) ⌝ }
 {
     let masks = event_hours::masks_of(list);
-    let energy = put_lines(w, book, &masks, price, list, out, list.len() / 3);
+    let count = notices::count_in(list.len());
+    let energy = put_lines(w, book, &masks, price, list, out, count);
     let cents = rounded_worth(price, energy);
     Settlement {
         number: 0,

@@ -1,4 +1,4 @@
--- The three numbers of a notice of a list; and laws of the hours of the first notices together: none of no notice, those of one notice
+-- The numbers of a notice of a list, and none past the last; and laws of the hours of the first notices together: none of no notice, those of one notice
 -- more, and that they only grow.
 -- Assumes nothing.
 use Prim.Native.Nat.{ℕ, zero, suc, _+_, _*_, _≤_, _<_}
@@ -7,16 +7,17 @@ use mathlib.Core.Logic.{⊎-elim}
 use mathlib.Core.Path.{_≡_, refl}
 use native.Mathlib.Nat.{eq-or-lt-of-le}
 use native.Mathlib.Omega.{arith}
-use lib.ListN.{getD}
-use borrow.Author.Tests.{lt-ltb}
-use Rattle.notices.specs.Notices.{countOf, noticeAt, hoursOf, hoursTo}
-use Rattle.notices.specs.declared.notices.Notice.{Notice}
+use borrow.Author.Tests.{lt-ltb, le-ltb}
+use Rattle.notices.specs.Notices.{noticeNumbers, countOf, noNotice, noticeFrom, noticeAt, hoursOf, hoursTo}
 
 module _ (l : List ℕ) where
-  pub notice-read : (k : ℕ) → k < countOf l
-      → _≡_ {A = Notice} (record { day = getD l (k * 3) 0; start = getD l (k * 3 + 1) 0; end = getD l (k * 3 + 2) 0 }) (noticeAt l k)
+  pub notice-read : (k : ℕ) → k < countOf l → noticeFrom l (k * noticeNumbers) ≡ noticeAt l k
   unfolding noticeAt
   notice-read k h = rw (lt-ltb k (countOf l) h)
+
+  pub notice-past : (k : ℕ) → countOf l ≤ k → noNotice ≡ noticeAt l k
+  unfolding noticeAt
+  notice-past k h = rw (le-ltb k (countOf l) h)
 
   pub hours-none : hoursTo l 0 ≡ 0
   unfolding hoursTo

@@ -7,18 +7,34 @@ use lib.Dec.{ltb}
 use lib.ListN.{length, getD}
 use Rattle.notices.specs.declared.notices.Notice.{Notice}
 
--- a list holds as many notices as it has whole triples
+-- "A notice is three numbers: day, first hour s, end e"; "A list has 0 to 100 notices."
+abbrev pub noticeNumbers : ℕ
+noticeNumbers = 3
+
+abbrev pub mostNotices : ℕ
+mostNotices = 100
+
+-- so many numbers has the longest list
+abbrev pub longestList : ℕ
+longestList = noticeNumbers * mostNotices
+
+-- so many notices stand in so many numbers, and in a list: as many as it has whole ones
+abbrev pub countIn : ℕ → ℕ
+countIn numbers = numbers / noticeNumbers
+
 abbrev pub countOf : List ℕ → ℕ
-countOf l = length l / 3
+countOf l = countIn (length l)
 
 -- no notice: no hours, on day 0
 abbrev pub noNotice : Notice
 noNotice = record { day = 0; start = 0; end = 0 }
 
--- "A notice is three numbers: day, first hour s, end e"; the one at index k, counted from 0
+-- the notice whose numbers stand from index i of a list on, and the one at index k, counted from 0
+abbrev pub noticeFrom : List ℕ → ℕ → Notice
+noticeFrom l i = record { day = getD l i 0; start = getD l (i + 1) 0; end = getD l (i + 2) 0 }
+
 unfoldable pub noticeAt : List ℕ → ℕ → Notice
-noticeAt l k =
-    cond (ltb k (countOf l)) (record { day = getD l (k * 3) 0; start = getD l (k * 3 + 1) 0; end = getD l (k * 3 + 2) 0 }) noNotice
+noticeAt l k = cond (ltb k (countOf l)) (noticeFrom l (k * noticeNumbers)) noNotice
 
 -- "its hours are s to e-1", so many
 unfoldable pub hoursOf : Notice → ℕ

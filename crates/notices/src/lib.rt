@@ -5,7 +5,11 @@ mod profiles;
 
 pub use hours::bad_hours;
 pub use hours::bad_length;
+pub use notices::LONGEST_LIST;
+pub use notices::MOST_NOTICES;
+pub use notices::NOTICE_NUMBERS;
 pub use notices::Notice;
+pub use notices::count_in;
 pub use notices::hours_of;
 pub use notices::notice_at;
 pub use profiles::Figures;

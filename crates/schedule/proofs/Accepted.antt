@@ -1,7 +1,7 @@
 -- Demand 2, both directions: a list is accepted under a profile exactly when it is lawful by the profile's figures.
 -- Every row of the table is kept exactly when the list is lawful: rule by rule for a notice, and notice by notice for the list.
 -- Assumes nothing.
-use Prim.Native.Nat.{ℕ, zero, suc, _+_, _-_, _/_, _%_, _≤_, _<_}
+use Prim.Native.Nat.{ℕ, zero, suc, _+_, _%_, _≤_, _<_}
 use mathlib.Core.Bool.{false}
 use mathlib.Core.List.{List}
 use mathlib.Core.Logic.{inl, _↔_}
@@ -18,7 +18,7 @@ use Rattle.laws.specs.Table.{accepted, isRefusal}
 use Rattle.notices.proofs.HourLaws.{hours-iff, long-iff}
 use Rattle.notices.proofs.NoticeLaws.{hours-none, hours-next, hours-grow}
 use Rattle.notices.proofs.ProfileLaws.{named-number}
-use Rattle.notices.specs.Notices.{countOf, noNotice, noticeAt, hoursOf, hoursTo}
+use Rattle.notices.specs.Notices.{noticeNumbers, mostNotices, longestList, countIn, countOf, noNotice, noticeAt, hoursOf, hoursTo}
 use Rattle.notices.specs.Profiles.{figuresOf, profileNumber, named}
 use Rattle.notices.specs.declared.notices.Notice.{Notice}
 use Rattle.notices.specs.declared.profiles.Figures.{Figures}
@@ -33,8 +33,8 @@ use Rattle.schedule.proofs.Walk.{Passed, none-passed, passed-none, noti
 -- a list that keeps every rule: every notice by itself, every notice against the one before it, and the hours together
 pub record Lawful (w : ℕ) (f : Figures) (l : List ℕ) : Type 0 where
   pub winter : (2010 ≤ w) × (w ≤ 2098)
-  pub whole : length l % 3 ≡ 0
-  pub few : countOf l ≤ 100
+  pub whole : length l % noticeNumbers ≡ 0
+  pub few : countOf l ≤ mostNotices
   pub each : (k : ℕ) → k < countOf l → Sound w f (noticeAt l k)
   pub follows : (k : ℕ) → suc k < countOf l → Follows (noticeAt l k) (noticeAt l (suc k))
   pub hours : hoursTo l (countOf l) ≤ f .hours
@@ -109,11 +109,11 @@ module _ (w : ℕ) (f : Figures) (l : List ℕ) where
   passed-all t =
       none-iff-each (rowsAt (winterOf w) f l) (countOf l) .1 (λ k h. passed-none (winterOf w) f (sofarAt l k) (noticeAt l k) k (t k h))
 
--- a list of whole triples, not more than 100, holds at most 100 notices, and the other way round
+-- a list of whole notices, and not too many, is not bad
 
-pub whole-test : (n : ℕ) → n % 3 ≡ 0 → n / 3 ≤ 100 → badList n ≡ false
+pub whole-test : (n : ℕ) → n % noticeNumbers ≡ 0 → countIn n ≤ mostNotices → badList n ≡ false
 unfolding badList
-whole-test n a b = rw (eq-eqb (n % 3) 0 a) (le-ltb 300 n (omega arith))
+whole-test n a b = rw (eq-eqb (n % noticeNumbers) 0 a) (le-ltb longestList n (omega arith))
 
 -- no row of the table is broken exactly when the list is lawful
 
@@ -124,8 +124,8 @@ module _ (w : ℕ) (f : Figures) (l : List ℕ) where
       let t = all-passed w f l none in
       record {
         winter = winter-range w .0 v;
-        whole = fits .0;
-        few = fits .1;
+        whole = fits .whole;
+        few = fits .few;
         each = λ k h. passed-sound w f (sofarAt l k) (noticeAt l k) (t k h);
         follows = λ k h. follows-at w f l k (t (suc k) h);
         hours = all-hours w f l (countOf l) t;

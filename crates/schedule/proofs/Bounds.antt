@@ -1,4 +1,4 @@
--- Bounds of the list check's answer, and what it makes of a list that is not whole triples or more than 100.
+-- Bounds of the list check's answer, and what it makes of a list that is bad.
 -- Assumes nothing.
 use Prim.Native.Nat.{ℕ, _≤_}
 use mathlib.Core.Bool.{true, false}
@@ -26,7 +26,7 @@ module _ (w : ℕ) (f : Figures) (l : List ℕ) where
 
   pub notices-within : badList (length l) ≡ false → Within 18 100 (firstOf (noticesTable (winterOf w) f l))
   notices-within b =
-      let few = list-fits (length l) b .1 in
+      let few = list-fits (length l) b .few in
       within-first 18 100 (noticesTable (winterOf w) f l)
       (all-rows (λ (r : Row). (r .number ≤ 18) × (r .place ≤ 100)) (rowsAt (winterOf w) f l) (countOf l) (λ k h. row-bounds k (omega arith)))
 

@@ -8,7 +8,7 @@ use mathlib.Core.Path.{_≡_}
 use Rattle.calendar.specs.WinterOf.{winterOf}
 use Rattle.calendar.specs.Excluded.{excluded}
 use Rattle.dates.specs.Winters.{days}
-use Rattle.notices.specs.Notices.{countOf, noticeAt, hoursTo}
+use Rattle.notices.specs.Notices.{mostNotices, countOf, noticeAt, hoursTo}
 use Rattle.notices.specs.declared.notices.Notice.{Notice}
 
 -- the event's hours lie inside the morning band, or inside the evening band
@@ -30,7 +30,7 @@ abbrev pub Later : Notice → Notice → Type 0
 Later m n = (m .day < n .day) ⊎ ((m .day ≡ n .day) × (m .end ≤ 10) × (16 ≤ n .start))
 
 pub record Standing (w : ℕ) (l : List ℕ) : Type 0 where
-  pub few : countOf l ≤ 100
+  pub few : countOf l ≤ mostNotices
   pub each : (k : ℕ) → k < countOf l → Stands w (noticeAt l k)
   pub later : (i j : ℕ) → i < j → j < countOf l → Later (noticeAt l i) (noticeAt l j)
   pub hours : hoursTo l (countOf l) ≤ 100

@@ -1,7 +1,7 @@
 -- Laws of the walk over the notices: what a notice that is not refused has passed, and one law for each way out of the loop and for a turn.
 -- The invariant: what stands before notice k is what the list has before it, and no notice before it is refused.
 -- Assumes nothing.
-use Prim.Native.Nat.{ℕ, zero, suc, _+_, _-_, _/_, _%_, _≤_, _<_}
+use Prim.Native.Nat.{ℕ, zero, suc, _+_, _%_, _≤_, _<_}
 use mathlib.Core.Bool.{true, false, not}
 use mathlib.Core.List.{List}
 use mathlib.Core.Path.{_≡_, refl, sym, ap, _∙_}
@@ -19,7 +19,7 @@ use Rattle.laws.specs.Table.{accepted, firstOf, isRefusal}
 use Rattle.notices.proofs.HourLaws.{hours-fit}
 use Rattle.notices.proofs.NoticeLaws.{hours-none, hours-next}
 use Rattle.notices.specs.Hours.{badHours, badLength}
-use Rattle.notices.specs.Notices.{countOf, noticeAt, hoursOf, hoursTo}
+use Rattle.notices.specs.Notices.{noticeNumbers, mostNotices, longestList, countIn, countOf, noticeAt, hoursOf, hoursTo}
 use Rattle.notices.specs.Sane.{Sane}
 use Rattle.notices.specs.declared.notices.Notice.{Notice}
 use Rattle.notices.specs.declared.profiles.Figures.{Figures}
@@ -145,10 +145,14 @@ module _ {w : Winter} {f : Figures} {l : List ℕ} {n : ℕ} {so : Sofar} {k : �
           walked = walked-next (h .walked) answer-is e (rows-numbered w f l k) t;
         }
 
--- a list of whole triples, not more than 100, holds at most 100 notices
-pub list-fits : (n : ℕ) → badList n ≡ false → (n % 3 ≡ 0) × (n / 3 ≤ 100)
+-- a list that is not bad has whole notices, and not too many
+pub record Whole (numbers : ℕ) : Type 0 where
+  pub whole : numbers % noticeNumbers ≡ 0
+  pub few : countIn numbers ≤ mostNotices
+
+pub list-fits : (n : ℕ) → badList n ≡ false → Whole n
 unfolding badList
 list-fits n e =
-    let p = neither (not (eqb (n % 3) 0)) (ltb 300 n) e in
-    let a : n ≤ 300 = ltb-false 300 n (p .1) in
-    (eqb-true (n % 3) 0 (not-false (eqb (n % 3) 0) (p .0)), omega arith)
+    let p = neither (not (eqb (n % noticeNumbers) 0)) (ltb longestList n) e in
+    let a : n ≤ longestList = ltb-false longestList n (p .1) in
+    record { whole = eqb-true (n % noticeNumbers) 0 (not-false (eqb (n % noticeNumbers) 0) (p .0)); few = omega arith }

@@ -15,7 +15,7 @@ use Rattle.laws.specs.Answer.{Answer}
 use Rattle.laws.specs.Rows.{rowsTo}
 use Rattle.laws.specs.Table.{Row, row, firstOf}
 use Rattle.notices.specs.Hours.{badHours, badLength}
-use Rattle.notices.specs.Notices.{countOf, noNotice, noticeAt, hoursOf, hoursTo}
+use Rattle.notices.specs.Notices.{noticeNumbers, longestList, countOf, noNotice, noticeAt, hoursOf, hoursTo}
 use Rattle.notices.specs.Profiles.{figuresOf, named}
 use Rattle.notices.specs.declared.notices.Notice.{Notice}
 use Rattle.notices.specs.declared.profiles.Figures.{Figures}
@@ -68,7 +68,7 @@ noticesTable w f l = rowsTo (rowsAt w f l) (countOf l)
 
 -- "4: list not whole triples, or more than 100"
 unfoldable pub badList : ℕ → Bool
-badList length = not (eqb (length % 3) 0) || ltb 300 length
+badList length = not (eqb (length % noticeNumbers) 0) || ltb longestList length
 
 -- "5: profile neither 1 nor 2"
 abbrev pub noProfile : Named → Bool

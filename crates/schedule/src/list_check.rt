@@ -6,7 +6,7 @@ ghost use Prim.Native.Nat.{_≤_, _<_};
 ghost use lib.ListN.{length};
 ghost use Rattle.laws.specs.Rows.{rowsTo};
 ghost use Rattle.laws.specs.Table.{firstOf};
-ghost use Rattle.notices.specs.Notices.{countOf, noticeAt, hoursOf};
+ghost use Rattle.notices.specs.Notices.{mostNotices, countOf, noticeAt, hoursOf};
 ghost use Rattle.notices.specs.Sane.{Sane};
 ghost use Rattle.schedule.specs.Verdicts.{verdictPaper};
 ghost use Rattle.schedule.specs.ListCheck.{ownRows, listRows, noticeRows, nothingBefore, afterNotice, rowsAt, badList, checkedIn, checkAnswer};
@@ -108,7 +108,7 @@ fn notice_in(list: &[u32], k: usize) -> Notice
     requires { ⌜ k < countOf (now list) ⌝ }
     ensures { λ r. ⌜ r ≡ noticeAt (now (list .entry)) k ⌝ }
 {
-    let at = k * 3;
+    let at = k * notices::NOTICE_NUMBERS;
     let day = list[at];
     let start = list[at + 1];
     let end = list[at + 2];
@@ -117,7 +117,7 @@ fn notice_in(list: &[u32], k: usize) -> Notice
 
 // The first refusal among the notices of a list.
 fn check_notices(w: Winter, f: Figures, list: &[u32], count: usize) -> Verdict
-    requires { ⌜ (wrongWinter w ≡ false) × Sane f × (count ≤ 100) × (count ≤ countOf (now list)) ⌝ }
+    requires { ⌜ (wrongWinter w ≡ false) × Sane f × (count ≤ mostNotices) × (count ≤ countOf (now list)) ⌝ }
     ensures { λ r. ⌜ verdictPaper r ≡ firstOf (rowsTo (rowsAt w f (now (list .entry))) count) ⌝ }
 {
     let mut so = nothing_before();
@@ -135,11 +135,11 @@ fn check_notices(w: Winter, f: Figures, list: &[u32], count: usize) -> Verdict
     Verdict::Accepted
 }
 
-// Rule 4: whether a list of so many numbers is not whole triples, or more than 100.
+// Rule 4: whether a list of so many numbers is not whole notices, or has too many.
 pub fn bad_list(length: usize) -> bool
     ensures { λ r. ⌜ r ≡ badList length ⌝ }
 {
-    (length % 3 != 0) | (300 < length)
+    (length % notices::NOTICE_NUMBERS != 0) | (notices::LONGEST_LIST < length)
 }
 
 // Whether a list of notices stands in a winter whose facts are at hand, or the first rule that it breaks.
@@ -153,7 +153,7 @@ pub fn check_in(w: Winter, p: Profile, list: &[u32]) -> Verdict
     if bad_list(length) {
         return Verdict::Refused(Rule::BadList, 0);
     }
-    check_notices(w, p.figures(), list, length / 3)
+    check_notices(w, p.figures(), list, notices::count_in(length))
 }
 
 // Whether a list of notices stands under a profile in a winter, or the first rule that it breaks.

@@ -5,20 +5,22 @@ use Prim.Native.Nat.{_≤_, _-_}
 use mathlib.Core.Path.{_≡_}
 use native.Mathlib.Omega.{arith}
 use borrow.Author.Needs.{needs}
-use Rattle.notices.specs.Notices.{countOf}
 use Rattle.event_hours.specs.Days.{masksTo}
 use Rattle.event_hours.proofs.DayLaws.{masks-none, masks-next, masks-all}
 use Rattle.event_hours.proofs.days.masks_of.Statement.{statement}
 use Rattle.event_hours.proofs.days.masks_of.Tie as tie
 
 abbrev Inv-loop : tie.InvT-loop
-Inv-loop list masks₀ k₀ masks k = (k ≤ countOf list) × (masks ≡ masksTo list k)
+Inv-loop list masks₀ count k₀ masks k = (k ≤ count) × (masks ≡ masksTo list k)
 
 abbrev μ-loop : tie.MeasureT-loop
-μ-loop list masks₀ k₀ masks k = countOf list - k
+μ-loop list masks₀ count k₀ masks k = count - k
+
+count-in-requires : tie.Need-count-in-requires Inv-loop μ-loop
+count-in-requires c κs = search needs
 
 loop-holds : tie.Need-loop-holds Inv-loop μ-loop
-loop-holds c = (omega arith, masks-none (c .before .args .list .now))
+loop-holds c = (omega arith, masks-none (c .before .before .args .list .now))
 
 notice-at-requires : tie.Need-notice-at-requires Inv-loop μ-loop
 notice-at-requires c κs = search needs
@@ -34,9 +36,10 @@ loop-less c = search needs
 
 loop-again : tie.Need-loop-again Inv-loop μ-loop
 loop-again c =
-    let n = c .before .before in
-    let l = n .before .before in
-    (omega arith, masks-next (l .before .before .args .list .now) (l .loop .k) (l .loop .inv .1) (n .notice-at .ensures) (c .mark-hours .ensures))
+    let read = c .before .before in
+    let turn = read .before .before in
+    let start = turn .before .before .before in
+    (omega arith, masks-next (start .args .list .now) (turn .loop .k) (turn .loop .inv .1) (read .notice-at .ensures) (c .mark-hours .ensures))
 
 returns : tie.Need-returns Inv-loop μ-loop
 returns c = masks-all _ (c .before .loop .k) (c .before .loop .inv .1) (omega arith)
@@ -47,6 +50,7 @@ masks-of-spec =
     (tie.spec
     Inv-loop
     μ-loop
+    count-in-requires
     loop-holds
     notice-at-requires
     mark-hours-requires

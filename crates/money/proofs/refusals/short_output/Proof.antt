@@ -5,6 +5,7 @@ use mathlib.Core.Bool.{Bool, true, false}
 use mathlib.Core.Path.{_≡_, refl, sym, _∙_}
 use native.Mathlib.Omega.{arith}
 use lib.Dec.{ltb}
+use borrow.Author.Needs.{needs}
 use borrow.Author.Tests.{ltb-true, ltb-false, lt-ltb, le-ltb}
 use Rattle.money.specs.Refusals.{shortOutput}
 use Rattle.money.proofs.refusals.short_output.Statement.{statement}
@@ -18,9 +19,12 @@ fours room m = by (ltb (room / 4) m) refl
     by true e = e ∙ sym (lt-ltb room (4 * m) (omega (arith, ltb-true (room / 4) m e)))
     by false e = e ∙ sym (le-ltb room (4 * m) (omega (arith, ltb-false (room / 4) m e)))
 
+count-in-requires : tie.Need-count-in-requires
+count-in-requires c κs = search needs
+
 returns : tie.Need-returns
 unfolding shortOutput
-returns c = fours (c .args .room) (c .args .numbers / 3)
+returns c = rw (← c .count-in .ensures) (fours (c .before .args .room) (c .count-in .result))
 
 pub short-output-spec : {M : Type 1} → statement M
-short-output-spec = tie.close (tie.spec returns)
+short-output-spec = tie.close (tie.spec count-in-requires returns)

@@ -1,14 +1,16 @@
--- `notice_at` reads the three numbers of a whole triple, which lie in the list, and gives no notice past the last one.
+-- `notice_at` reads the numbers of a whole notice, which lie in the list, and gives no notice past the last one.
 -- Assumes nothing.
 use borrow.Author.Needs.{needs}
-use borrow.Author.Tests.{lt-ltb, le-ltb}
-use Rattle.notices.specs.Notices.{noticeAt}
+use native.Mathlib.Omega.{arith}
+use Rattle.notices.proofs.NoticeLaws.{notice-read, notice-past}
 use Rattle.notices.proofs.notices.notice_at.Statement.{statement}
 use Rattle.notices.proofs.notices.notice_at.Tie as tie
 
+count-in-requires : tie.Need-count-in-requires
+count-in-requires c κs = search needs
+
 returns : tie.Need-returns
-unfolding noticeAt
-returns c = rw (le-ltb _ _ (c .if1 .taken))
+returns c = notice-past _ _ (omega (arith, c .before .count-in .ensures))
 
 mul-at : tie.Need-mul-at
 mul-at c = search needs
@@ -38,13 +40,13 @@ shared-slice-read-end : tie.Need-shared-slice-read-end
 shared-slice-read-end c = search needs
 
 returns-2 : tie.Need-returns-2
-unfolding noticeAt
-returns-2 c = rw (lt-ltb _ _ (c .before .before .before .if1 .left))
+returns-2 c = let there = c .before .before .before in notice-read _ _ (omega (arith, there .before .count-in .ensures))
 
 pub notice-at-spec : {M : Type 1} → statement M
 notice-at-spec =
     tie.close
     (tie.spec
+    count-in-requires
     returns
     mul-at
     mul-day

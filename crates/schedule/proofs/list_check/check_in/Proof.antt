@@ -30,20 +30,25 @@ returns-2 c =
 figures-requires : tie.Need-figures-requires
 figures-requires c κs = search needs
 
+count-in-requires : tie.Need-count-in-requires
+count-in-requires c κs = search needs
+
 check-notices-requires : tie.Need-check-notices-requires
 check-notices-requires c κs =
-    let whole = c .before in
+    let whole = c .before .before in
     let right = whole .before .before in
     let fits = list-fits _ (found (whole .before .bad-list .ensures) (whole .if2 .left)) in
-    (found (right .before .wrong-winter .ensures) (right .if1 .left), rw (c .figures .ensures) (sane _), omega arith, omega arith)
+    let count = c .count-in .ensures in
+    (found (right .before .wrong-winter .ensures) (right .if1 .left), rw (c .before .figures .ensures) (sane _), omega arith, omega arith)
 
 returns-3 : tie.Need-returns-3
 unfolding checkedIn
 returns-3 c =
-    let whole = c .before .before in
+    let counted = c .before in
+    let whole = counted .before .before in
     let right = whole .before .before in
     row-goes _ _ (found (right .before .wrong-winter .ensures) (right .if1 .left))
-    (row-goes _ _ (found (whole .before .bad-list .ensures) (whole .if2 .left)) (rw (← c .before .figures .ensures) (c .check-notices .ensures)))
+    (row-goes _ _ (found (whole .before .bad-list .ensures) (whole .if2 .left)) (rw (← counted .before .figures .ensures, ← counted .count-in .ensures) (c .check-notices .ensures)))
 
 pub check-in-spec : {M : Type 1} → statement M
 check-in-spec =
@@ -54,5 +59,6 @@ check-in-spec =
     bad-list-requires
     returns-2
     figures-requires
+    count-in-requires
     check-notices-requires
     returns-3)
