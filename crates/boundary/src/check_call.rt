@@ -19,7 +19,7 @@ fn check_in(winter: u32, profile: u32, list: &[u8], numbers: &mut [u32]) -> u32
 pub fn check_bytes(winter: u32, profile: u32, list: &[u8]) -> u32
     ensures { λ r. ⌜ r ≡ checkCall winter profile (now (list .entry)) ⌝ }
 {
-    let mut numbers = [0u32; 300];
+    let mut numbers = [0u32; notices::LONGEST_LIST];
     let count = list_room(list.len());
     check_in(winter, profile, list, &mut numbers[..count])
 }

@@ -66,9 +66,9 @@ fn put_statement(
     ensures { λ r. ⌜ Put (now (out .entry)) 0 (statementBytes winter price (now (list .entry)) (now (lines .entry)) energy cents) r (now (out .exit)) ⌝ }
     ensures { λ r. ⌜ r ≤ length (now (out .entry)) ⌝ }
 {
-    let notices = list.len() / 3;
-    let first = put_head(out, winter as u64, price as u64, notices as u64);
-    let past = put_lines(out, first, list, lines, notices);
+    let count = notices::count_in(list.len());
+    let first = put_head(out, winter as u64, price as u64, count as u64);
+    let past = put_lines(out, first, list, lines, count);
     put_totals(out, past, energy, cents)
 }
 
@@ -98,7 +98,7 @@ pub fn print_statement(
     ensures { λ r. ⌜ r ≡ printedCount (cannotPrint (countOf (now (list .entry))) (length (now (lines .entry))) (length (now (out .entry)))) (statementBytes winter price (now (list .entry)) (now (lines .entry)) energy cents) ⌝ }
     ensures { λ _. ⌜ now (out .exit) ≡ printed (cannotPrint (countOf (now (list .entry))) (length (now (lines .entry))) (length (now (out .entry)))) (statementBytes winter price (now (list .entry)) (now (lines .entry)) energy cents) (now (out .entry)) ⌝ }
 {
-    if cannot_print(list.len() / 3, lines.len(), out.len()) {
+    if cannot_print(notices::count_in(list.len()), lines.len(), out.len()) {
         return 0;
     }
     put_statement(winter, price, list, lines, energy, cents, out)

@@ -26,7 +26,7 @@ use Rattle.money.specs.Lines.{eventAt, linesTo}
 use Rattle.money.specs.Refusals.{callRows}
 use Rattle.money.specs.Settlement.{refusedWith, settlement, written}
 use Rattle.money.specs.declared.settlement.Settlement.{Settlement}
-use Rattle.notices.specs.Notices.{countOf}
+use Rattle.notices.specs.Notices.{noticeNumbers, mostNotices, countIn, countOf}
 use Rattle.printing.proofs.RoomLaws.{can-print, all-printed}
 use Rattle.printing.specs.Room.{cannotPrint, printed, printedCount}
 use Rattle.printing.specs.Sheet.{refusedBytes, statementBytes}
@@ -39,8 +39,8 @@ Prints bytes out n after = (n ≡ length bytes) × (after ≡ startsWith bytes o
 pub prints-same : (out : List ℕ) {bytes other after : List ℕ} {n : ℕ} → bytes ≡ other → Prints bytes out n after → Prints other out n after
 prints-same out e p = rw (← e) p
 
--- what is printed where there is the room of every answer and no more than 100 notices
-pub prints : (bytes out after : List ℕ) (n notices numbers : ℕ) → 4 * notices ≤ numbers → notices ≤ 100 → answerRoom ≤ length out
+-- what is printed where there is the room of every answer and not too many notices
+pub prints : (bytes out after : List ℕ) (n notices numbers : ℕ) → 4 * notices ≤ numbers → notices ≤ mostNotices → answerRoom ≤ length out
     → (n ≡ printedCount (cannotPrint notices numbers (length out)) bytes) × (after ≡ printed (cannotPrint notices numbers (length out)) bytes out)
     → Prints bytes out n after
 prints bytes out after n notices numbers a b c e =
@@ -68,7 +68,7 @@ module _ (w p : ℕ) (book l lines : List ℕ) (j : length lines ≡ roomFor l) 
   unfolding settledBytes settlementBytes
   settled-printed z = rw (← is, eq-eqb (s .number) 0 z, lines-alike z)
 
-  pub statement-printed : s .number ≡ 0 → countOf l ≤ 100 → (filled out after : List ℕ) (n : ℕ) → filled ≡ written w book p l lines
+  pub statement-printed : s .number ≡ 0 → countOf l ≤ mostNotices → (filled out after : List ℕ) (n : ℕ) → filled ≡ written w book p l lines
       → length lines ≡ length filled → answerRoom ≤ length out
       → (n ≡ printedCount (cannotPrint (countOf l) (length filled) (length out)) (statementBytes w p l filled (s .energy) (s .cents)))
       × (after ≡ printed (cannotPrint (countOf l) (length filled) (length out)) (statementBytes w p l filled (s .energy) (s .cents)) out)
@@ -77,15 +77,15 @@ module _ (w p : ℕ) (book l lines : List ℕ) (j : length lines ≡ roomFor l) 
       prints-same out (ap (λ (x : List ℕ). statementBytes w p l x (s .energy) (s .cents)) f ∙ settled-printed z)
       (prints (statementBytes w p l filled (s .energy) (s .cents)) out after n (countOf l) (length filled) (omega arith) few room shown)
 
--- more than 100 notices are refused by the call's own rows, whatever they are
-pub many-refused : (w p number : ℕ) (book l : List ℕ) (n : ℕ) → length l ≡ 3 * n → 100 < n
-    → refusalAt number 0 ≡ firstOf (callRows w (length book) p (3 * n) (4 * n)) → refusedBytes number 0 ≡ settledBytes w book p l
+-- too many notices are refused by the call's own rows, whatever they are
+pub many-refused : (w p number : ℕ) (book l : List ℕ) (n : ℕ) → length l ≡ noticeNumbers * n → mostNotices < n
+    → refusalAt number 0 ≡ firstOf (callRows w (length book) p (noticeNumbers * n) (4 * n)) → refusedBytes number 0 ≡ settledBytes w book p l
 many-refused w p number book l n h m e =
-    let third : 3 * n / 3 ≡ n = omega arith in
+    let third : countIn (noticeNumbers * n) ≡ n = omega arith in
     let row : refusalAt number 0 ≡ firstOf (callRows w (length book) p (length l) (roomFor l)) = rw (h, third) e in
-    let none : number ≡ 0 → isRefusal (firstOf (callRows w (length book) p (3 * n) (4 * n))) ≡ false
+    let none : number ≡ 0 → isRefusal (firstOf (callRows w (length book) p (noticeNumbers * n) (4 * n))) ≡ false
     = λ (z : number ≡ 0). ap isRefusal (sym e) ∙ rw z in
-    let some : number ≡ 0 → ⊥ = λ (z : number ≡ 0). omega (arith, call-right w (length book) p (3 * n) (4 * n) (none z) .few) in
+    let some : number ≡ 0 → ⊥ = λ (z : number ≡ 0). omega (arith, call-right w (length book) p (noticeNumbers * n) (4 * n) (none z) .few) in
     let just : length {A = ℕ} (replicate (roomFor l) 0) ≡ roomFor l = length-replicate (roomFor l) 0 in
     settled-refused w p book l (replicate (roomFor l) 0) just (refusedWith number 0) (rw just (call-refused w p book l (roomFor l) number row some)) some
 

@@ -3,7 +3,7 @@ ghost use mathlib.Core.Path.{_≡_};
 ghost use Prim.Native.Nat.{_*_, _≤_};
 ghost use lib.ListN.{length};
 ghost use Rattle.form.specs.Said.{eventsOf};
-ghost use Rattle.notices.specs.Notices.{countOf};
+ghost use Rattle.notices.specs.Notices.{noticeNumbers, mostNotices, countOf};
 ghost use Rattle.printing.specs.Sheet.{refusedBytes};
 ghost use Rattle.text.specs.Statement.{answerRoom, startsWith, roomFor, settledBytes};
 use form::Shape;
@@ -26,7 +26,7 @@ fn print_settled(
     lines: &mut [u64],
     out: &mut [u8],
 ) -> usize
-    requires { ⌜ (length (now lines) ≡ roomFor (now list)) × (countOf (now list) ≤ 100) × (answerRoom ≤ length (now out)) ⌝ }
+    requires { ⌜ (length (now lines) ≡ roomFor (now list)) × (countOf (now list) ≤ mostNotices) × (answerRoom ≤ length (now out)) ⌝ }
     ensures { λ r. ⌜ r ≡ length (settledBytes winter (now (book .entry)) price (now (list .entry))) ⌝ }
     ensures { λ _. ⌜ now (out .exit) ≡ startsWith (settledBytes winter (now (book .entry)) price (now (list .entry))) (now (out .entry)) ⌝ }
 {
@@ -50,9 +50,9 @@ fn print_list(
     lines: &mut [u64],
     out: &mut [u8],
 ) -> usize
-    requires { ⌜ length (eventsOf (shape .events) (now text) (shape .«events_at»)) ≡ 3 * shape .events ⌝ }
-    requires { ⌜ (length (now list) ≡ 3 * shape .events) × (length (now lines) ≡ 4 * shape .events) ⌝ }
-    requires { ⌜ (shape .events ≤ 100) × (answerRoom ≤ length (now out)) ⌝ }
+    requires { ⌜ length (eventsOf (shape .events) (now text) (shape .«events_at»)) ≡ noticeNumbers * shape .events ⌝ }
+    requires { ⌜ (length (now list) ≡ noticeNumbers * shape .events) × (length (now lines) ≡ 4 * shape .events) ⌝ }
+    requires { ⌜ (shape .events ≤ mostNotices) × (answerRoom ≤ length (now out)) ⌝ }
     ensures { λ r. ⌜ r ≡ length (settledBytes (shape .winter) (now (book .entry)) (shape .price) (eventsOf (shape .events) (now (text .entry)) (shape .«events_at»))) ⌝ }
     ensures { λ _. ⌜ now (out .exit) ≡ startsWith (settledBytes (shape .winter) (now (book .entry)) (shape .price) (eventsOf (shape .events) (now (text .entry)) (shape .«events_at»))) (now (out .entry)) ⌝ }
 {
@@ -62,31 +62,31 @@ fn print_list(
     print_settled(winter, book, price, list, lines, out)
 }
 
-// The same with room of its own. More than 100 notices are refused, with 3 or 4, by how many they are, and not read.
+// The same with room of its own. Too many notices are refused, with 3 or 4, by how many they are, and not read.
 pub(crate) fn print_notices(text: &[u8], shape: Shape, book: &[u32], out: &mut [u8]) -> usize
-    requires { ⌜ length (eventsOf (shape .events) (now text) (shape .«events_at»)) ≡ 3 * shape .events ⌝ }
+    requires { ⌜ length (eventsOf (shape .events) (now text) (shape .«events_at»)) ≡ noticeNumbers * shape .events ⌝ }
     requires { ⌜ answerRoom ≤ length (now out) ⌝ }
     ensures { λ r. ⌜ r ≡ length (settledBytes (shape .winter) (now (book .entry)) (shape .price) (eventsOf (shape .events) (now (text .entry)) (shape .«events_at»))) ⌝ }
     ensures { λ _. ⌜ now (out .exit) ≡ startsWith (settledBytes (shape .winter) (now (book .entry)) (shape .price) (eventsOf (shape .events) (now (text .entry)) (shape .«events_at»))) (now (out .entry)) ⌝ }
 {
     let events = shape.events as usize;
-    if 100 < events {
+    if notices::MOST_NOTICES < events {
         let number = money::call_refusal(
             shape.winter,
             book.len(),
             shape.price,
-            3 * events,
+            notices::NOTICE_NUMBERS * events,
             4 * events,
         );
         return refuse(number, 0, out);
     }
-    let mut list = [0u32; 300];
+    let mut list = [0u32; notices::LONGEST_LIST];
     let mut lines = [0u64; 400];
     print_list(
         text,
         shape,
         book,
-        &mut list[..3 * events],
+        &mut list[..notices::NOTICE_NUMBERS * events],
         &mut lines[..4 * events],
         out,
     )

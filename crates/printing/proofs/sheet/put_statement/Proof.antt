@@ -7,6 +7,9 @@ use Rattle.printing.proofs.PutLaws.{put-both}
 use Rattle.printing.proofs.sheet.put_statement.Statement.{statement}
 use Rattle.printing.proofs.sheet.put_statement.Tie as tie
 
+count-in-requires : tie.Need-count-in-requires
+count-in-requires c κs = search needs
+
 put-head-requires : tie.Need-put-head-requires
 put-head-requires c κs = search needs
 
@@ -22,12 +25,16 @@ same-length c = search needs
 returns : tie.Need-returns
 unfolding statementLines
 returns c =
-    let t = c .before .before in
-    let s = t .before .before .before .before in
-    let f = s .before .before .before .before in
-    (put-both _ _ (f .put-head .ensures .0) (put-both _ _ (s .put-lines .ensures .0) (t .put-totals .ensures .0)), omega arith)
+    let totals = c .before .before in
+    let lines = totals .before .before .before .before in
+    let head = lines .before .before .before .before in
+    let counted = head .before .before in (
+      rw (← counted .count-in .ensures)
+          (put-both _ _ (head .put-head .ensures .0) (put-both _ _ (lines .put-lines .ensures .0) (totals .put-totals .ensures .0))),
+      omega arith,
+    )
 
 pub put-statement-spec : {M : Type 1} → statement M
 put-statement-spec =
     tie.close
-    (tie.spec put-head-requires put-lines-requires put-totals-requires same-length returns)
+    (tie.spec count-in-requires put-head-requires put-lines-requires put-totals-requires same-length returns)

@@ -1,4 +1,4 @@
--- The notices are settled with room for 100 of them; more are refused by the call's own rows.
+-- The notices are settled with room for the longest list; more are refused by the call's own rows.
 -- Assumes nothing.
 use native.Mathlib.Omega.{arith}
 use lib.ListN.{length-take}
@@ -7,31 +7,24 @@ use Rattle.text.proofs.StatementLaws.{prints-same, many-refused}
 use Rattle.text.proofs.settled.print_notices.Statement.{statement}
 use Rattle.text.proofs.settled.print_notices.Tie as tie
 
--- src/settled.rt:73:18
 cast-events : tie.Need-cast-events
 cast-events c = search needs
 
--- src/settled.rt:75:81
 mul-call-refusal : tie.Need-mul-call-refusal
 mul-call-refusal c = search needs
 
--- src/settled.rt:75:93
 mul-call-refusal-2 : tie.Need-mul-call-refusal-2
 mul-call-refusal-2 c = search needs
 
--- src/settled.rt:75:13
 call-refusal-requires : tie.Need-call-refusal-requires
 call-refusal-requires c κs = search needs
 
--- src/settled.rt:76:9
 refuse-requires : tie.Need-refuse-requires
 refuse-requires c κs = search needs
 
--- src/settled.rt:76:9
 same-length : tie.Need-same-length
 same-length c = search needs
 
--- src/settled.rt:76:9
 returns : tie.Need-returns
 returns c =
     let t = c .before .before .before .before in
@@ -39,41 +32,32 @@ returns c =
     prints-same (s .args .out .now) (many-refused _ _ _ _ _ (s .args .shape .events) (s .pre .0) (t .before .if1 .taken) (t .call-refusal .ensures))
     (c .before .before .refuse .ensures)
 
--- src/settled.rt:80:47
 mul-list : tie.Need-mul-list
 mul-list c = search needs
 
--- src/settled.rt:80:35
 array-borrow-prefix-list : tie.Need-array-borrow-prefix-list
 array-borrow-prefix-list c = search needs
 
--- src/settled.rt:80:35
 slice-aggregate-print-list : tie.Need-slice-aggregate-print-list
 slice-aggregate-print-list c = simp length-take (omega arith)
 
--- src/settled.rt:80:73
 mul-lines : tie.Need-mul-lines
 mul-lines c = search needs
 
--- src/settled.rt:80:60
 array-borrow-prefix-lines : tie.Need-array-borrow-prefix-lines
 array-borrow-prefix-lines c = search needs
 
--- src/settled.rt:80:60
 slice-aggregate-print-list-2 : tie.Need-slice-aggregate-print-list-2
 slice-aggregate-print-list-2 c = simp length-take (omega arith)
 
--- src/settled.rt:80:5
 print-list-requires : tie.Need-print-list-requires
 print-list-requires c κs =
     let s = c .before .before .before .before .before .before .before .before in
     (s .pre .0, (simp length-take (omega arith), (omega arith, s .pre .1)))
 
--- src/settled.rt:67:1
 same-length-2 : tie.Need-same-length-2
 same-length-2 c = search needs
 
--- src/settled.rt:67:1
 returns-2 : tie.Need-returns-2
 returns-2 c = search needs
 
