@@ -12,10 +12,10 @@ use lib.Dec.{ltb}
 use lib.ListN.{length}
 use borrow.Author.Tests.{lt-ltb, le-ltb}
 use Rattle.laws.proofs.Every.{Every}
-use Rattle.notices.proofs.HourLaws.{Morning, Evening, hours-iff}
+use Rattle.notices.proofs.HourLaws.{Inside, hours-iff}
+use Rattle.notices.proofs.ProfileLaws.{credit-figures}
 use Rattle.notices.specs.Hours.{badHours}
-use Rattle.notices.specs.Profiles.{eveningStart, figuresOf}
-use Rattle.notices.specs.Sane.{sane}
+use Rattle.notices.specs.Profiles.{credit, figuresOf}
 use Rattle.notices.specs.declared.notices.Notice.{Notice}
 use Rattle.notices.specs.declared.profiles.Figures.{Figures}
 use Rattle.notices.specs.declared.profiles.Profile.the-variants.{Credit}
@@ -25,13 +25,11 @@ use Rattle.energy.specs.HoursOf.{run, Spans, HoursFor}
 -- hours that rule 13 does not refuse under the winter credit lie in a band
 pub in-band : (f : Figures) (n : Notice) → f ≡ figuresOf Credit → badHours f n ≡ false → Spans (n .start) (n .end)
 in-band f n fe e =
-    let p = hours-iff (figuresOf Credit) n .0 (rw (← fe) e) in
-    let ok = sane Credit in
+    let p = hours-iff credit n .0 (rw (← credit-figures, ← fe) e) in
     let some = p .0 in
-    let ten = ok .morning in
     ⊎-elim
-    (λ (m : Morning (figuresOf Credit) n). record { late = m .0; some-hour = some; few = omega arith; in-day = omega arith })
-    (λ (m : Evening n). record { late = omega arith; some-hour = some; few = omega arith; in-day = m .1 })
+    (λ (m : Inside (credit .morning) n). record { late = m .from; some-hour = some; few = omega arith; in-day = omega arith })
+    (λ (m : Inside (credit .evening) n). record { late = omega arith; some-hour = some; few = omega arith; in-day = m .to })
     (p .1)
 
 -- as many hours as asked for
@@ -76,7 +74,7 @@ unfolding run hoursFrom
 run-none h to b = let e : to - h ≡ 0 = omega arith in rw e
 
 module _ (s e : ℕ) (p : Spans s e) where
-  pub morning-hours : s < eveningStart → HoursFor s e (record { warm = s - 5; pause = s - 2; start = s; end = e })
+  pub morning-hours : s < credit .evening .start → HoursFor s e (record { warm = s - 5; pause = s - 2; start = s; end = e })
   unfolding run warmUp
   morning-hours b =
       let three : s - 2 - (s - 5) ≡ 3 = omega arith in
@@ -86,7 +84,7 @@ module _ (s e : ℕ) (p : Spans s e) where
         inside = record { two-warm = omega arith; warm-in = omega arith; in-order = omega arith; few-event = omega arith; event-in = omega arith };
       }
 
-  pub evening-hours : eveningStart ≤ s → HoursFor s e (record { warm = s - 4; pause = s - 2; start = s; end = e })
+  pub evening-hours : credit .evening .start ≤ s → HoursFor s e (record { warm = s - 4; pause = s - 2; start = s; end = e })
   unfolding run warmUp
   evening-hours b =
       let two : s - 2 - (s - 4) ≡ 2 = omega arith in

@@ -5,7 +5,7 @@ use mathlib.Core.Bool.{cond}
 use mathlib.Core.List.{List, [], _∷_, _++_, map}
 use lib.Dec.{ltb}
 use Rattle.calendar.specs.declared.answers.Winter.{Winter}
-use Rattle.notices.specs.Profiles.{eveningStart}
+use Rattle.notices.specs.Profiles.{credit}
 use Rattle.notices.specs.declared.notices.Notice.{Notice}
 use Rattle.energy.specs.ReferenceDays.{referenceDays}
 
@@ -22,7 +22,7 @@ hoursFrom h (suc n) = h ∷ hoursFrom (suc h) n
 
 -- "Warm-up hours: for a morning event s-5, s-4, s-3 (W = 3); for an evening event s-4, s-3 (W = 2)."
 unfoldable pub warmUp : ℕ → List ℕ
-warmUp s = cond (ltb s eveningStart) (hoursFrom (s - 5) 3) (hoursFrom (s - 4) 2)
+warmUp s = cond (ltb s (credit .evening .start)) (hoursFrom (s - 5) 3) (hoursFrom (s - 4) 2)
 
 unfoldable pub askedBy : Winter → List ℕ → Notice → Asked
 askedBy w masks n =

@@ -16,16 +16,18 @@ pub(crate) fn hours_of(start: u32, end: u32) -> Hours
     ensures { λ r. ⌜ HoursFor start end r ⌝ }
 {
     let pause = start - 2;
-    if start < Profile::EVENING {
+    if start < Profile::CREDIT.evening.start {
+        let warm = start - 5;
         return Hours {
-            warm: start - 5,
+            warm,
             pause,
             start,
             end,
         };
     }
+    let warm = start - 4;
     Hours {
-        warm: start - 4,
+        warm,
         pause,
         start,
         end,

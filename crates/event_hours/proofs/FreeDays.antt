@@ -6,6 +6,7 @@ use mathlib.Core.Logic.{_↔_}
 use mathlib.Core.Path.{_≡_}
 use native.Mathlib.Omega.{arith}
 use Rattle.notices.specs.Notices.{countOf, noticeAt}
+use Rattle.notices.specs.declared.profiles.Figures.{Figures}
 use Rattle.schedule.proofs.Standing.{Standing}
 use Rattle.event_hours.specs.Days.{dayMask}
 use Rattle.event_hours.proofs.Bits.{bit-zero, same-bits}
@@ -15,7 +16,7 @@ use Rattle.event_hours.proofs.WhichBits.{Covers, which-bits}
 abbrev pub NoEvent : List ℕ → ℕ → Type 0
 NoEvent l d = (k : ℕ) → k < countOf l → noticeAt l k .day ≡ d → ⊥
 
-module _ {w : ℕ} {l : List ℕ} (st : Standing w l) (d : ℕ) where
+module _ {w : ℕ} {f : Figures} {l : List ℕ} (st : Standing w f l) (d : ℕ) where
   unmarked : dayMask l d ≡ 0 → NoEvent l d
   unmarked e k b q =
       let h = noticeAt l k .start in
@@ -23,8 +24,8 @@ module _ {w : ℕ} {l : List ℕ} (st : Standing w l) (d : ℕ) where
       omega (arith, bit-zero h, rw e at (which-bits st d h .1 v))
 
   unnoticed : NoEvent l d → dayMask l d ≡ 0
-  unnoticed f =
-      same-bits (dayMask l d) 0 (λ h e. let v = which-bits st d h .0 e in absurd (f (v .which) (v .among) (v .covers .day-is)))
+  unnoticed none =
+      same-bits (dayMask l d) 0 (λ h e. let v = which-bits st d h .0 e in absurd (none (v .which) (v .among) (v .covers .day-is)))
       (λ h e. absurd (omega (arith, bit-zero h)))
 
   pub mask-free : (dayMask l d ≡ 0) ↔ NoEvent l d

@@ -9,7 +9,10 @@ use native.Mathlib.Omega.{arith}
 use lib.Count.{ones, trailingZeros}
 use borrow.Author.Tests.{eq-eqb, le-ltb, lt-leb}
 use Rattle.notices.specs.Notices.{countOf, noticeAt}
-use Rattle.schedule.proofs.Standing.{Standing}
+use Rattle.notices.specs.Profiles.{credit}
+use Rattle.notices.specs.Sane.{PartOf}
+use Rattle.notices.specs.declared.profiles.Figures.{Figures}
+use Rattle.schedule.proofs.Standing.{OneDay, Standing}
 use Rattle.event_hours.specs.Days.{hoursIn, masksOf, dayMask, eventHours}
 use Rattle.event_hours.specs.Events.{maskOn, isRun, eventOf, eventOn}
 use Rattle.event_hours.specs.Hours.{bitAt, hoursMask, bandMask, ownHours}
@@ -18,20 +21,30 @@ use Rattle.event_hours.proofs.HourLaws.{band-before, band-from, in-own-
 use Rattle.event_hours.proofs.HoursMask.{hours-bit, hours-ones, hours-zeros}
 use Rattle.event_hours.proofs.WhichBits.{Covers, which-bits, standing-marks}
 
-module _ {w : ℕ} {l : List ℕ} (st : Standing w l) (k : ℕ) (b : k < countOf l) where
+module _ {w : ℕ} {f : Figures} {l : List ℕ} (st : Standing w f l) (k : ℕ) (b : k < countOf l) where
+  -- where the bands of the figures lie
+  first : PartOf (credit .morning) (f .morning)
+  first = st .bands .morning
+
+  second : PartOf (credit .evening) (f .evening)
+  second = st .bands .evening
+
   -- of the events on a notice's day, only the notice itself covers an hour of its band
   only-this : (h : ℕ) → bitAt (bandMask (noticeAt l k .start)) h ≡ 1 → (v : Covers l (countOf l) (noticeAt l k .day) h) → v .which ≡ k
   only-this h e v = omega (arith, not-earlier, not-later)
     where
       not-earlier : v .which < k → ⊥
       not-earlier p =
-          ⊎-elim (λ q. omega (arith, v .covers .day-is)) (λ q. omega (arith, v .covers .to, band-from (noticeAt l k .start) h (q .2) e))
+          ⊎-elim (λ (q : noticeAt l (v .which) .day < noticeAt l k .day). omega (arith, v .covers .day-is))
+          (λ (q : OneDay f (noticeAt l (v .which)) (noticeAt l k)).
+          omega (arith, v .covers .to, first .to, band-from (noticeAt l k .start) h (omega (arith, second .from, q .evening)) e))
           (st .later (v .which) k p b)
 
       not-later : k < v .which → ⊥
       not-later p =
-          ⊎-elim (λ q. omega (arith, v .covers .day-is))
-          (λ q. omega (arith, v .covers .from, band-before (noticeAt l k .start) h (omega (arith, st .each k b .some-hour)) e))
+          ⊎-elim (λ (q : noticeAt l k .day < noticeAt l (v .which) .day). omega (arith, v .covers .day-is))
+          (λ (q : OneDay f (noticeAt l k) (noticeAt l (v .which))).
+          omega (arith, v .covers .from, second .from, band-before (noticeAt l k .start) h (omega (arith, first .to, st .each k b .some-hour)) e))
           (st .later k (v .which) p (v .among))
 
   cut-is-event : Within (eventHours l k) (hoursIn (noticeAt l k))
@@ -48,7 +61,7 @@ module _ {w : ℕ} {l : List ℕ} (st : Standing w l) (k : ℕ) (b : k < countOf
       let q = hours-bit (noticeAt l k .start) (noticeAt l k .end) h .0 e in
       let v : Covers l (countOf l) (noticeAt l k .day) h = record { which = k; among = b; covers = record { day-is = refl; from = q .0; to = q .1 } } in
       and-both (dayMask l (noticeAt l k .day)) (bandMask (noticeAt l k .start)) h .1
-      (which-bits st (noticeAt l k .day) h .1 v, in-own-band (noticeAt l k) h (st .each k b .in-band) (q .0) (q .1))
+      (which-bits st (noticeAt l k .day) h .1 v, in-own-band f (noticeAt l k) h (st .bands) (st .each k b .in-band) (q .0) (q .1))
 
   own-hours-back : eventHours l k ≡ hoursMask (noticeAt l k .start) (noticeAt l k .end)
   own-hours-back = same-bits (eventHours l k) (hoursIn (noticeAt l k)) cut-is-event event-is-cut

@@ -2,19 +2,17 @@
 -- The invariant, by recursion on the notices: so it is of the masks of the first k notices.
 -- Assumes nothing.
 use Prim.Native.Nat.{ℕ, zero, suc, _≤_, _<_}
-use mathlib.Core.Bool.{true}
 use mathlib.Core.List.{List}
 use mathlib.Core.Logic.{_⊎_, inl, inr, ⊎-elim, _↔_}
 use mathlib.Core.Path.{_≡_}
 use native.Mathlib.Nat.{eq-or-lt-of-le}
 use native.Mathlib.Omega.{arith}
-use lib.Dec.{ltb, eqb}
 use lib.ListN.{length, getD}
-use borrow.Author.Tests.{eqb-true, eq-eqb, lt-ltb}
 use Rattle.dates.proofs.Promise.{days-range}
-use Rattle.laws.proofs.Guards.{both}
+use Rattle.notices.proofs.HourLaws.{Inside}
 use Rattle.notices.specs.Notices.{countOf, noticeAt}
 use Rattle.notices.specs.declared.notices.Notice.{Notice}
+use Rattle.notices.specs.declared.profiles.Figures.{Figures}
 use Rattle.schedule.proofs.Standing.{Standing}
 use Rattle.event_hours.specs.Days.{hoursIn, withHours, masksTo, masksOf, dayMask}
 use Rattle.event_hours.specs.Hours.{bitAt}
@@ -76,16 +74,18 @@ module _ (l : List ℕ) (d h : ℕ) where
       (eq-or-lt-of-le (omega (arith, v .among)))
 
 -- a notice of an accepted list marks its hours
-pub standing-marks : {w : ℕ} {l : List ℕ} → Standing w l → (k : ℕ) → k < countOf l → Marks (noticeAt l k)
-standing-marks {w} st k b =
+pub standing-marks : {w : ℕ} {f : Figures} {l : List ℕ} → Standing w f l → (k : ℕ) → k < countOf l → Marks (noticeAt l k)
+standing-marks {w} {f} {l} st k b =
     let s = st .each k b in
+    let morning = st .bands .morning in
+    let evening = st .bands .evening in
     record {
       in-book = omega (arith, s .in-book, days-range w);
       some-hour = s .some-hour;
-      in-day = ⊎-elim (λ i. omega arith) (λ i. omega arith) (s .in-band);
+      in-day = ⊎-elim (λ (i : Inside (f .morning) (noticeAt l k)). omega arith) (λ (i : Inside (f .evening) (noticeAt l k)). omega arith) (s .in-band);
     }
 
-module _ {w : ℕ} {l : List ℕ} (st : Standing w l) (d h : ℕ) where
+module _ {w : ℕ} {f : Figures} {l : List ℕ} (st : Standing w f l) (d h : ℕ) where
   pub which-bits : (bitAt (dayMask l d) h ≡ 1) ↔ Covers l (countOf l) d h
   unfolding masksOf
   which-bits = (covered l d h (countOf l), marked l d h (countOf l) (standing-marks st))

@@ -5,7 +5,7 @@ use Prim.Native.Nat.{ℕ, _-_, _/_, _%_, _^_}
 use mathlib.Core.Bool.{cond}
 use lib.Bits.{bitAnd}
 use lib.Dec.{ltb}
-use Rattle.notices.specs.Profiles.{morningStart, eveningStart, eveningEnd}
+use Rattle.notices.specs.Profiles.{credit}
 
 -- bit h of a mask
 abbrev pub bitAt : ℕ → ℕ → ℕ
@@ -15,9 +15,13 @@ bitAt mask h = mask / 2 ^ h % 2
 unfoldable pub hoursMask : ℕ → ℕ → ℕ
 hoursMask s e = 2 ^ e - 2 ^ s
 
--- the hours of the band of an event that starts at hour s: the morning's up to where the evening's start, or the evening's
+-- the hours of the band of an event that starts at hour s: the morning's up to where the evening's start, or the evening's; by the bands of
+-- the winter credit, in which those of every profile lie
 unfoldable pub bandMask : ℕ → ℕ
-bandMask s = cond (ltb s eveningStart) (hoursMask morningStart eveningStart) (hoursMask eveningStart eveningEnd)
+bandMask s =
+    cond (ltb s (credit .evening .start))
+    (hoursMask (credit .morning .start) (credit .evening .start))
+    (hoursMask (credit .evening .start) (credit .evening .end))
 
 -- of a day's event hours, those of the event that starts at hour s
 unfoldable pub ownHours : ℕ → ℕ → ℕ

@@ -12,14 +12,15 @@ pub(crate) fn hours_mask(start: u32, end: u32) -> u32
     (1u32 << end) - (1u32 << start)
 }
 
-// The band of an event that starts at that hour. The morning's reaches up to the evening's, so that it serves every profile.
+// The band of an event that starts at that hour: the winter credit's, in which those of every profile lie, the morning's up to the evening's.
 fn band_mask(start: u32) -> u32
     ensures { λ r. ⌜ r ≡ bandMask start ⌝ }
 {
-    if start < Profile::EVENING {
-        return hours_mask(Profile::MORNING, Profile::EVENING);
+    let evening = Profile::CREDIT.evening;
+    if start < evening.start {
+        return hours_mask(Profile::CREDIT.morning.start, evening.start);
     }
-    hours_mask(Profile::EVENING, Profile::EVENING_END)
+    hours_mask(evening.start, evening.end)
 }
 
 // A day's mask cut to the band of the event that starts at that hour: a day can have an event in each band.

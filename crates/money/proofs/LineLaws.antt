@@ -12,6 +12,7 @@ use Rattle.event_hours.specs.Days.{masksOf}
 use Rattle.event_hours.specs.Events.{eventOn}
 use Rattle.laws.proofs.RowLaws.{Wide, rows-alike}
 use Rattle.notices.specs.Notices.{countOf, noticeAt}
+use Rattle.notices.specs.declared.profiles.Figures.{Figures}
 use Rattle.schedule.proofs.Standing.{Standing}
 use Rattle.money.specs.Lines.{eventAt, eventIn, energyTo, centsAt, lineAt, linesTo}
 use Rattle.money.specs.Worth.{roundedWorth}
@@ -27,7 +28,8 @@ unfolding eventIn
 events-small w book masks l k = answer-most w book masks (eventOn masks (noticeAt l k))
 
 -- of a list that stands, the event that its masks hold for a notice is the notice
-pub same-event : {y : ℕ} {l : List ℕ} → Standing y l → (book : List ℕ) (k : ℕ) → k < countOf l → eventIn (winterOf y) book (masksOf l) l k ≡ eventAt y book l k
+pub same-event : {y : ℕ} {f : Figures} {l : List ℕ} → Standing y f l → (book : List ℕ) (k : ℕ) → k < countOf l
+    → eventIn (winterOf y) book (masksOf l) l k ≡ eventAt y book l k
 unfolding eventIn eventAt
 same-event st book k h = rw (event-back st k h)
 

@@ -89,7 +89,7 @@ module _ (y p : ℕ) (book l : List ℕ) (w : Winter) (v : noWinter y ≡ false)
 
   events-same : isRefusal checked ≡ false → (k : ℕ) → k < countOf l → eventIn (winterOf y) book (masksOf l) l k ≡ eventAt y book l k
   unfolding checked
-  events-same q = same-event (accepted-standing y 1 l (check-accepted y 1 l (rw (check-credit y l v) q))) book
+  events-same q = same-event (accepted-standing y Credit l (check-accepted y 1 l (rw (check-credit y l v) q))) book
 
   pub settled-in : (room : ℕ) → checkedIn (winterOf y) Credit l ≡ refusalOf y (length book) p l room
       → settledBy (checkedIn w Credit l) p (eventIn w book (masksOf l) l) (countOf l) ≡ settlement y book p l room

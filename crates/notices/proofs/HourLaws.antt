@@ -2,71 +2,61 @@
 -- test on a callee's result.
 -- Assumes nothing.
 use Prim.Native.Nat.{ℕ, _-_, _≤_, _<_}
-use mathlib.Core.Bool.{Bool, true, false, _&&_, _||_}
+use mathlib.Core.Bool.{Bool, true, false, _&&_, _||_, true≢false}
 use mathlib.Core.Logic.{_⊎_, inl, inr, ⊎-elim, _↔_}
 use mathlib.Core.Path.{_≡_, refl}
 use native.Mathlib.Omega.{arith}
 use lib.Dec.{leb, ltb}
-use borrow.Author.Tests.{ltb-false, leb-false, le-ltb, lt-ltb, lt-leb}
+use borrow.Author.Tests.{ltb-false, leb-false, le-ltb, lt-leb}
 use Rattle.laws.proofs.Guards.{neither, no-fault}
-use Rattle.notices.specs.Hours.{outsideBands, badHours, badLength}
+use Rattle.notices.specs.Hours.{outside, badHours, badLength}
 use Rattle.notices.specs.Notices.{hoursOf}
-use Rattle.notices.specs.Profiles.{morningStart, eveningStart, eveningEnd}
 use Rattle.notices.specs.Sane.{Sane}
 use Rattle.notices.specs.declared.notices.Notice.{Notice}
+use Rattle.notices.specs.declared.profiles.Band.{Band}
 use Rattle.notices.specs.declared.profiles.Figures.{Figures}
 
--- the bands
+-- the hours lie inside a band
 
-abbrev pub Morning : Figures → Notice → Type 0
-Morning f n = (morningStart ≤ n .start) × (n .end ≤ f .morning)
+pub record Inside (b : Band) (n : Notice) : Type 0 where
+  pub from : b .start ≤ n .start
+  pub to : n .end ≤ b .end
 
-abbrev pub Evening : Notice → Type 0
-Evening n = (eveningStart ≤ n .start) × (n .end ≤ eveningEnd)
+inside-iff : (b : Band) (n : Notice) → (outside b n ≡ false) ↔ Inside b n
+unfolding outside
+inside-iff b n = (
+  λ h. let p = neither (ltb (n .start) (b .start)) (ltb (b .end) (n .end)) h in
+      record { from = ltb-false (n .start) (b .start) (p .0); to = ltb-false (b .end) (n .end) (p .1) },
+  λ i. no-fault (ltb (n .start) (b .start)) (ltb (b .end) (n .end)) (le-ltb (n .start) (b .start) (i .from)) (le-ltb (b .end) (n .end) (i .to)),
+)
+
+-- inside the morning band, or inside the evening band
+abbrev pub InBand : Figures → Notice → Type 0
+InBand f n = Inside (f .morning) n ⊎ Inside (f .evening) n
 
 one-holds : (a b : Bool) → (a && b) ≡ false → (a ≡ false) ⊎ (b ≡ false)
 one-holds true b h = inr h
 one-holds false b h = inl refl
 
--- the bands by where the start lies
-and-true : (b : Bool) → b ≡ (b && true)
-and-true true = refl
-and-true false = refl
-
-pub before-evening : (f : Figures) (n : Notice) → n .start < eveningStart → (ltb (n .start) morningStart || ltb (f .morning) (n .end)) ≡ outsideBands f n
-unfolding outsideBands
-before-evening f n h = rw (lt-ltb (n .start) eveningStart h) (and-true (ltb (n .start) morningStart || ltb (f .morning) (n .end)))
-
-pub from-evening : (f : Figures) (n : Notice) → eveningStart ≤ n .start → (ltb (f .morning) (n .end) && ltb eveningEnd (n .end)) ≡ outsideBands f n
-unfolding outsideBands
-from-evening f n h = rw (le-ltb (n .start) eveningStart h, le-ltb (n .start) morningStart (omega arith))
+not-both : (a b : Bool) → (a ≡ false) ⊎ (b ≡ false) → (a && b) ≡ false
+not-both true b (inl h) = absurd (true≢false h)
+not-both true b (inr h) = h
+not-both false b h = refl
 
 module _ (f : Figures) (n : Notice) where
-  in-band : outsideBands f n ≡ false → Morning f n ⊎ Evening n
-  unfolding outsideBands
-  in-band h =
-      ⊎-elim
-      (λ a. let p = neither (ltb (n .start) 6) (ltb (f .morning) (n .end)) a in inl (ltb-false (n .start) 6 (p .0), ltb-false (f .morning) (n .end) (p .1)))
-      (λ a. let p = neither (ltb (n .start) 16) (ltb 20 (n .end)) a in inr (ltb-false (n .start) 16 (p .0), ltb-false 20 (n .end) (p .1)))
-      (one-holds (ltb (n .start) 6 || ltb (f .morning) (n .end)) (ltb (n .start) 16 || ltb 20 (n .end)) h)
+  in-band-iff : ((outside (f .morning) n && outside (f .evening) n) ≡ false) ↔ InBand f n
+  in-band-iff = (
+    λ h. ⊎-elim (λ a. inl (inside-iff (f .morning) n .0 a)) (λ a. inr (inside-iff (f .evening) n .0 a)) (one-holds (outside (f .morning) n) (outside (f .evening) n) h),
+    λ r. not-both (outside (f .morning) n) (outside (f .evening) n)
+        (⊎-elim (λ (i : Inside (f .morning) n). inl (inside-iff (f .morning) n .1 i)) (λ (i : Inside (f .evening) n). inr (inside-iff (f .evening) n .1 i)) r),
+  )
 
-  in-band-test : Morning f n ⊎ Evening n → outsideBands f n ≡ false
-  unfolding outsideBands
-  in-band-test r =
-      ⊎-elim
-      (λ (m : Morning f n). rw (le-ltb (n .start) 6 (m .0), le-ltb (f .morning) (n .end) (m .1)))
-      (λ (m : Evening n). rw (le-ltb (n .start) 16 (m .0), le-ltb 20 (n .end) (m .1)) (nothing (ltb (n .start) 6 || ltb (f .morning) (n .end))))
-      r
-    where
-      nothing : (b : Bool) → (b && false) ≡ false
-      nothing true = refl
-      nothing false = refl
-
-  pub hours-iff : (badHours f n ≡ false) ↔ ((n .start < n .end) × (Morning f n ⊎ Evening n))
+  pub hours-iff : (badHours f n ≡ false) ↔ ((n .start < n .end) × InBand f n)
   unfolding badHours
   hours-iff = (
-    λ h. let p = neither (leb (n .end) (n .start)) (outsideBands f n) h in (leb-false (n .end) (n .start) (p .0), in-band (p .1)),
-    λ r. no-fault (leb (n .end) (n .start)) (outsideBands f n) (lt-leb (n .end) (n .start) (r .0)) (in-band-test (r .1)),
+    λ h. let p = neither (leb (n .end) (n .start)) (outside (f .morning) n && outside (f .evening) n) h in
+        (leb-false (n .end) (n .start) (p .0), in-band-iff .0 (p .1)),
+    λ r. no-fault (leb (n .end) (n .start)) (outside (f .morning) n && outside (f .evening) n) (lt-leb (n .end) (n .start) (r .0)) (in-band-iff .1 (r .1)),
   )
 
   -- the length
@@ -80,8 +70,8 @@ module _ (f : Figures) (n : Notice) where
         (le-ltb (n .end - n .start) (f .shortest) (r .0)) (le-ltb (f .longest) (n .end - n .start) (r .1)),
   )
 
-  -- a length that is allowed is short
-  pub hours-fit : Sane f → badLength f n ≡ false → hoursOf n ≤ 4
+  -- a length that is allowed is no more than a day's
+  pub hours-fit : Sane f → badLength f n ≡ false → hoursOf n ≤ 24
   unfolding hoursOf
   hours-fit ok e = omega (arith, long-iff .0 e, ok .longest)
 

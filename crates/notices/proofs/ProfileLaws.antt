@@ -1,7 +1,7 @@
--- Laws of the profiles: each is the one that its number names, and where the mornings of the power option end.
+-- Laws of the profiles: each is the one that its number names, and the figures of each.
 -- Assumes nothing.
 use mathlib.Core.Path.{_≡_, refl}
-use Rattle.notices.specs.Profiles.{figuresOf, profileNumber, named}
+use Rattle.notices.specs.Profiles.{credit, powerOption, figuresOf, profileNumber, named}
 use Rattle.notices.specs.declared.profiles.Named.the-variants.{Is}
 use Rattle.notices.specs.declared.profiles.Profile.the-variants.{Credit, PowerOption}
 use Rattle.notices.specs.declared.profiles.Profile.{Profile}
@@ -11,6 +11,10 @@ unfolding named
 named-number Credit = refl
 named-number PowerOption = refl
 
-pub power-option-morning : figuresOf PowerOption .morning ≡ 9
+pub credit-figures : figuresOf Credit ≡ credit
 unfolding figuresOf
-power-option-morning = refl
+credit-figures = refl
+
+pub option-figures : figuresOf PowerOption ≡ powerOption
+unfolding figuresOf
+option-figures = refl

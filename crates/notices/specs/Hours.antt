@@ -3,18 +3,17 @@
 use mathlib.Core.Bool.{Bool, _&&_, _||_}
 use lib.Dec.{leb, ltb}
 use Rattle.notices.specs.Notices.{hoursOf}
-use Rattle.notices.specs.Profiles.{morningStart, eveningStart, eveningEnd}
 use Rattle.notices.specs.declared.notices.Notice.{Notice}
+use Rattle.notices.specs.declared.profiles.Band.{Band}
 use Rattle.notices.specs.declared.profiles.Figures.{Figures}
 
--- not inside the morning band, and not inside the evening band
-unfoldable pub outsideBands : Figures → Notice → Bool
-outsideBands f n =
-    (ltb (n .start) morningStart || ltb (f .morning) (n .end)) && (ltb (n .start) eveningStart || ltb eveningEnd (n .end))
+-- not inside a band
+unfoldable pub outside : Band → Notice → Bool
+outside b n = ltb (n .start) (b .start) || ltb (b .end) (n .end)
 
 -- "13: hours empty, reversed or not inside one band"
 unfoldable pub badHours : Figures → Notice → Bool
-badHours f n = leb (n .end) (n .start) || outsideBands f n
+badHours f n = leb (n .end) (n .start) || (outside (f .morning) n && outside (f .evening) n)
 
 -- "14: length not allowed"
 unfoldable pub badLength : Figures → Notice → Bool

@@ -1,29 +1,30 @@
--- The profiles and their figures: document 01's table, one clause for each column.
+-- The profiles and their figures: document 01's table, one definition for each column.
 -- "These figures belong to the profile and are named there once."
 -- Assumes nothing.
 use Prim.Native.Nat.{ℕ}
 use mathlib.Core.Bool.{true, false, cond}
 use lib.Dec.{eqb}
+use Rattle.notices.specs.declared.profiles.Band.{Band}
 use Rattle.notices.specs.declared.profiles.Figures.{Figures}
 use Rattle.notices.specs.declared.profiles.Named.the-variants.{Is, NoProfile}
 use Rattle.notices.specs.declared.profiles.Named.{Named}
 use Rattle.notices.specs.declared.profiles.Profile.the-variants.{Credit, PowerOption}
 use Rattle.notices.specs.declared.profiles.Profile.{Profile}
 
--- bands 6-10 or 6-9 in the morning; weekends or none; hours of an event 1 to 4, or 3 or 4; 100 hours in a winter
+abbrev pub band : ℕ → ℕ → Band
+band s e = record { start = s; end = e }
+
+-- profile 1, winter credit: bands 6-10 and 16-20; weekends; hours of an event 1 to 4; 100 hours in a winter
+abbrev pub credit : Figures
+credit = record { morning = band 6 10; evening = band 16 20; weekends = true; shortest = 1; longest = 4; hours = 100 }
+
+-- profile 2, power option: bands 6-9 and 16-20; no weekends; hours of an event 3 or 4; 100 hours in a winter
+abbrev pub powerOption : Figures
+powerOption = record { morning = band 6 9; evening = band 16 20; weekends = false; shortest = 3; longest = 4; hours = 100 }
+
 unfoldable pub figuresOf : Profile → Figures
-figuresOf Credit = record { morning = 10; weekends = true; shortest = 1; longest = 4; hours = 100 }
-figuresOf PowerOption = record { morning = 9; weekends = false; shortest = 3; longest = 4; hours = 100 }
-
--- the bands start at 6 and at 16, and the evening's ends at 20, under either profile
-abbrev pub morningStart : ℕ
-morningStart = 6
-
-abbrev pub eveningStart : ℕ
-eveningStart = 16
-
-abbrev pub eveningEnd : ℕ
-eveningEnd = 20
+figuresOf Credit = credit
+figuresOf PowerOption = powerOption
 
 -- document 01's number of a profile, and the profile of a number
 abbrev pub profileNumber : Profile → ℕ

@@ -1,19 +1,16 @@
 // The rules of a notice's hours, each a fault test: true where the rule is broken. They go by the figures and never by the profile.
 ghost use mathlib.Core.Path.{_≡_};
-ghost use Rattle.notices.specs.Hours.{outsideBands, badHours, badLength};
+ghost use Rattle.notices.specs.Hours.{outside, badHours, badLength};
 use crate::notices::Notice;
 use crate::notices::hours_of;
+use crate::profiles::Band;
 use crate::profiles::Figures;
-use crate::profiles::Profile;
 
-// The hours are not inside one band: the one that the start could lie in decides.
-fn outside_bands(f: Figures, n: Notice) -> bool
-    ensures { λ r. ⌜ r ≡ outsideBands f n ⌝ }
+// The hours are not inside a band.
+fn outside(band: Band, n: Notice) -> bool
+    ensures { λ r. ⌜ r ≡ outside band n ⌝ }
 {
-    if n.start < Profile::EVENING {
-        return (n.start < Profile::MORNING) | (f.morning < n.end);
-    }
-    (f.morning < n.end) & (Profile::EVENING_END < n.end)
+    (n.start < band.start) | (band.end < n.end)
 }
 
 // Rule 13: whether the hours of a notice are empty, reversed or not inside one band.
@@ -23,7 +20,7 @@ pub fn bad_hours(f: Figures, n: Notice) -> bool
     if n.end <= n.start {
         return true;
     }
-    outside_bands(f, n)
+    outside(f.morning, n) & outside(f.evening, n)
 }
 
 // Rule 14: whether the length of a notice is not allowed.

@@ -12,6 +12,7 @@ pub use notices::Notice;
 pub use notices::count_in;
 pub use notices::hours_of;
 pub use notices::notice_at;
+pub use profiles::Band;
 pub use profiles::Figures;
 pub use profiles::Named;
 pub use profiles::Profile;

@@ -7,9 +7,16 @@ pub enum Profile {
     PowerOption,
 }
 
-// The figures of a profile: one column of document 01's table. The bands' other ends are the same for all profiles.
+// A band: the hours of a day from start to end - 1.
+pub struct Band {
+    pub start: u32,
+    pub end: u32,
+}
+
+// The figures of a profile: one column of document 01's table.
 pub struct Figures {
-    pub morning: u32,
+    pub morning: Band,
+    pub evening: Band,
     pub weekends: bool,
     pub shortest: u32,
     pub longest: u32,
@@ -19,7 +26,8 @@ pub struct Figures {
 impl Profile {
     // Profile 1, winter credit.
     pub const CREDIT: Figures = Figures {
-        morning: 10,
+        morning: Band { start: 6, end: 10 },
+        evening: Band { start: 16, end: 20 },
         weekends: true,
         shortest: 1,
         longest: 4,
@@ -28,20 +36,13 @@ impl Profile {
 
     // Profile 2, power option.
     pub const POWER_OPTION: Figures = Figures {
-        morning: 9,
+        morning: Band { start: 6, end: 9 },
+        evening: Band { start: 16, end: 20 },
         weekends: false,
         shortest: 3,
         longest: 4,
         hours: 100,
     };
-
-    // The hour at which the morning band starts.
-    pub const MORNING: u32 = 6;
-
-    // The hours at which the evening band starts and ends.
-    pub const EVENING: u32 = 16;
-
-    pub const EVENING_END: u32 = 20;
 
     // The figures by which the rules go.
     pub fn figures(self) -> Figures

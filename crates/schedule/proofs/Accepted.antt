@@ -28,7 +28,7 @@ use Rattle.schedule.specs.ListCheck.{sofarAt, rowsAt, noticesTable, badL
 use Rattle.schedule.specs.declared.rules.Sofar.{Sofar}
 use Rattle.schedule.proofs.Lawful.{Sound, Alike, Follows, period-iff, open-iff, week-iff, order-iff, apart-iff, limit-iff}
 use Rattle.schedule.proofs.RuleLaws.{checked-right}
-use Rattle.schedule.proofs.Walk.{Passed, none-passed, passed-none, notices-numbered, sofar-hours, list-fits}
+use Rattle.schedule.proofs.Walk.{Passed, none-passed, passed-none, notices-numbered, sofar-none, sofar-hours, sofar-event, list-fits}
 
 -- a list that keeps every rule: every notice by itself, every notice against the one before it, and the hours together
 pub record Lawful (w : ℕ) (f : Figures) (l : List ℕ) : Type 0 where
@@ -36,13 +36,13 @@ pub record Lawful (w : ℕ) (f : Figures) (l : List ℕ) : Type 0 where
   pub whole : length l % noticeNumbers ≡ 0
   pub few : countOf l ≤ mostNotices
   pub each : (k : ℕ) → k < countOf l → Sound w f (noticeAt l k)
-  pub follows : (k : ℕ) → suc k < countOf l → Follows (noticeAt l k) (noticeAt l (suc k))
+  pub follows : (k : ℕ) → suc k < countOf l → Follows f (noticeAt l k) (noticeAt l (suc k))
   pub hours : hoursTo l (countOf l) ≤ f .hours
 
 -- what a notice has passed, and what it keeps
 
 module _ (w : ℕ) (f : Figures) (so : Sofar) (n : Notice) where
-  pub passed-sound : Passed (winterOf w) f so n → Sound w f n
+  passed-sound : Passed (winterOf w) f so n → Sound w f n
   passed-sound t =
       record {
         period = period-iff w f n .0 (t .period);
@@ -53,7 +53,10 @@ module _ (w : ℕ) (f : Figures) (so : Sofar) (n : Notice) where
         long = long-iff f n .0 (t .long);
       }
 
-  sound-passed : Sound w f n → Follows (so .last) n → so .hours + hoursOf n ≤ f .hours → Passed (winterOf w) f so n
+  passed-follows : Passed (winterOf w) f so n → Follows f (so .event) n
+  passed-follows t = record { order = order-iff (so .event) n .0 (t .order); apart = apart-iff f (so .event) n .0 (t .apart) }
+
+  sound-passed : Sound w f n → Follows f (so .event) n → so .hours + hoursOf n ≤ f .hours → Passed (winterOf w) f so n
   sound-passed s o h =
       record {
         period = period-iff w f n .1 (s .period);
@@ -61,16 +64,16 @@ module _ (w : ℕ) (f : Figures) (so : Sofar) (n : Notice) where
         week = week-iff w f n .1 (s .week);
         hours = hours-iff f n .1 (s .some-hour, s .band);
         long = long-iff f n .1 (s .long);
-        order = order-iff (so .last) n .1 (o .order);
-        apart = apart-iff (so .last) n .1 (o .apart);
+        order = order-iff (so .event) n .1 (o .order);
+        apart = apart-iff f (so .event) n .1 (o .apart);
         limit = limit-iff f so n .1 h;
       }
 
 -- no notice stands before the first: it is earlier, and on another day
-first-follows : (w : ℕ) (f : Figures) (n : Notice) → Sound w f n → Follows noNotice n
+first-follows : (w : ℕ) (f : Figures) (n : Notice) → Sound w f n → Follows f noNotice n
 first-follows w f n s =
     let p = s .period in
-    record { order = inl (omega arith); apart = λ (r : Alike noNotice n). let e : 0 ≡ n .day = r .0 in omega arith }
+    record { order = inl (omega arith); apart = λ (r : Alike f noNotice n). let e : 0 ≡ n .day = r .same-day in omega arith }
 
 module _ (w : ℕ) (f : Figures) (l : List ℕ) where
   abbrev AllPassed : ℕ → Type 0
@@ -83,19 +86,20 @@ module _ (w : ℕ) (f : Figures) (l : List ℕ) where
   all-hours zero t = omega (arith, hours-none l)
   all-hours (suc n) t = hours-at n (t n (omega arith))
 
-  follows-at : (k : ℕ) → Passed (winterOf w) f (sofarAt l (suc k)) (noticeAt l (suc k)) → Follows (noticeAt l k) (noticeAt l (suc k))
-  unfolding sofarAt
-  follows-at k t =
-      record { order = order-iff (noticeAt l k) (noticeAt l (suc k)) .0 (t .order); apart = apart-iff (noticeAt l k) (noticeAt l (suc k)) .0 (t .apart) }
+  follows-at : (k : ℕ) → Passed (winterOf w) f (sofarAt l (suc k)) (noticeAt l (suc k)) → Follows f (noticeAt l k) (noticeAt l (suc k))
+  follows-at k t = rw (← sofar-event l k) (passed-follows w f (sofarAt l (suc k)) (noticeAt l (suc k)) t)
 
-  passed-at : (n : ℕ) → ((k : ℕ) → k < n → Sound w f (noticeAt l k)) → ((k : ℕ) → suc k < n → Follows (noticeAt l k) (noticeAt l (suc k)))
+  -- the hours with the notice at index k are within the limit where those of all n notices are
+  hours-before : (n k : ℕ) → k < n → hoursTo l n ≤ f .hours → sofarAt l k .hours + hoursOf (noticeAt l k) ≤ f .hours
+  hours-before n k h hours = rw (sofar-hours l k) (omega (arith, hours-next l k, hours-grow l n (suc k) h))
+
+  passed-at : (n : ℕ) → ((k : ℕ) → k < n → Sound w f (noticeAt l k)) → ((k : ℕ) → suc k < n → Follows f (noticeAt l k) (noticeAt l (suc k)))
       → hoursTo l n ≤ f .hours → AllPassed n
-  unfolding sofarAt
   passed-at n each follows hours zero h =
-      sound-passed w f (sofarAt l zero) (noticeAt l zero) (each zero h) (first-follows w f (noticeAt l zero) (each zero h))
-      (omega (arith, hours-none l, hours-next l zero, hours-grow l n 1 (omega arith)))
+      sound-passed w f (sofarAt l zero) (noticeAt l zero) (each zero h) (rw (sofar-none l) (first-follows w f (noticeAt l zero) (each zero h)))
+      (hours-before n zero h hours)
   passed-at n each follows hours (suc k) h =
-      sound-passed w f (sofarAt l (suc k)) (noticeAt l (suc k)) (each (suc k) h) (follows k h) (omega (arith, hours-next l (suc k), hours-grow l n (suc (suc k)) (omega arith)))
+      sound-passed w f (sofarAt l (suc k)) (noticeAt l (suc k)) (each (suc k) h) (rw (sofar-event l k) (follows k h)) (hours-before n (suc k) h hours)
 
 -- no row of the notices is broken exactly when every notice passes
 

@@ -16,9 +16,8 @@ use Rattle.calendar.specs.Weekdays.{weekend}
 use Rattle.dates.specs.Winters.{days}
 use Rattle.calendar.specs.Days.{inPeriod}
 use Rattle.laws.proofs.Guards.{both, neither, no-fault}
-use Rattle.notices.proofs.HourLaws.{Morning, Evening}
+use Rattle.notices.proofs.HourLaws.{InBand}
 use Rattle.notices.specs.Notices.{hoursOf}
-use Rattle.notices.specs.Profiles.{eveningStart}
 use Rattle.notices.specs.declared.notices.Notice.{Notice}
 use Rattle.notices.specs.declared.profiles.Figures.{Figures}
 use Rattle.schedule.specs.Rules.{outsidePeriod, onExcludedDay, barredWeekend, startsBefore, sameBand, overLimit}
@@ -32,7 +31,7 @@ pub record Sound (w : ℕ) (f : Figures) (n : Notice) : Type 0 where
   pub open-day : excluded (winterOf w) (n .day) ≡ false
   pub week : f .weekends ≡ false → weekend (winterOf w) (n .day) ≡ false
   pub some-hour : n .start < n .end
-  pub band : Morning f n ⊎ Evening n
+  pub band : InBand f n
   pub long : (f .shortest ≤ n .end - n .start) × (n .end - n .start ≤ f .longest)
 
 -- a later day, or the same day and no earlier than the end
@@ -40,13 +39,14 @@ abbrev pub InOrder : Notice → Notice → Type 0
 InOrder last n = (last .day < n .day) ⊎ ((last .day ≡ n .day) × (last .end ≤ n .start))
 
 -- the same day and band
-abbrev pub Alike : Notice → Notice → Type 0
-Alike last n = (last .day ≡ n .day) × (ltb (last .start) eveningStart ≡ ltb (n .start) eveningStart)
+pub record Alike (f : Figures) (event n : Notice) : Type 0 where
+  pub same-day : event .day ≡ n .day
+  pub same-band : ltb (event .start) (f .evening .start) ≡ ltb (n .start) (f .evening .start)
 
--- 15 and 16: a notice against the one before it
-pub record Follows (last n : Notice) : Type 0 where
+-- 15 and 16: a notice against the one before it, which is the last event so far
+pub record Follows (f : Figures) (last n : Notice) : Type 0 where
   pub order : InOrder last n
-  pub apart : Alike last n → ⊥
+  pub apart : Alike f last n → ⊥
 
 -- tests and what they say
 
@@ -89,36 +89,51 @@ module _ (w : ℕ) (f : Figures) (n : Notice) where
 -- a notice against the one before it, rule by rule
 
 module _ (last n : Notice) where
+  abbrev earlier : Bool
+  earlier = ltb (n .day) (last .day)
+
+  abbrev same-day : Bool
+  same-day = eqb (n .day) (last .day)
+
+  abbrev before-end : Bool
+  before-end = ltb (n .start) (last .end)
+
+  in-order : (earlier || (same-day && before-end)) ≡ false → InOrder last n
+  in-order h =
+      let p = neither earlier (same-day && before-end) h in
+      ⊎-elim
+      (λ (e : last .day ≡ n .day). inr (e, ltb-false (n .start) (last .end) (unless same-day before-end (p .1) (eq-eqb (n .day) (last .day) (sym e)))))
+      (λ (e : last .day < n .day). inl e)
+      (eq-or-lt-of-le (ltb-false (n .day) (last .day) (p .0)))
+
+  in-order-test : InOrder last n → (earlier || (same-day && before-end)) ≡ false
+  in-order-test =
+      ⊎-elim
+      (λ (e : last .day < n .day). no-fault earlier (same-day && before-end) (le-ltb (n .day) (last .day) (omega arith))
+      (rw (ne-eqb (n .day) (last .day) (λ (q : n .day ≡ last .day). omega arith))))
+      (λ (e : (last .day ≡ n .day) × (last .end ≤ n .start)). no-fault earlier (same-day && before-end) (le-ltb (n .day) (last .day) (omega arith))
+      (unless-test same-day before-end (λ q. le-ltb (n .start) (last .end) (e .1))))
+
   pub order-iff : (startsBefore last n ≡ false) ↔ InOrder last n
   unfolding startsBefore
-  order-iff = (there, back)
-    where
-      there : (ltb (n .day) (last .day) || (eqb (n .day) (last .day) && ltb (n .start) (last .end))) ≡ false → InOrder last n
-      there h =
-          let p = neither (ltb (n .day) (last .day)) (eqb (n .day) (last .day) && ltb (n .start) (last .end)) h in
-          ⊎-elim
-          (λ (e : last .day ≡ n .day). inr (e, ltb-false (n .start) (last .end) (unless (eqb (n .day) (last .day)) (ltb (n .start) (last .end)) (p .1) (eq-eqb (n .day) (last .day) (sym e)))))
-          (λ (e : last .day < n .day). inl e)
-          (eq-or-lt-of-le (ltb-false (n .day) (last .day) (p .0)))
+  order-iff = (in-order, in-order-test)
 
-      back : InOrder last n → (ltb (n .day) (last .day) || (eqb (n .day) (last .day) && ltb (n .start) (last .end))) ≡ false
-      back =
-          ⊎-elim
-          (λ (e : last .day < n .day). no-fault (ltb (n .day) (last .day)) (eqb (n .day) (last .day) && ltb (n .start) (last .end)) (le-ltb (n .day) (last .day) (omega arith)) (rw (ne-eqb (n .day) (last .day) (λ (q : n .day ≡ last .day). omega arith))))
-          (λ (e : (last .day ≡ n .day) × (last .end ≤ n .start)). no-fault (ltb (n .day) (last .day)) (eqb (n .day) (last .day) && ltb (n .start) (last .end)) (le-ltb (n .day) (last .day) (omega arith)) (unless-test (eqb (n .day) (last .day)) (ltb (n .start) (last .end)) (λ q. le-ltb (n .start) (last .end) (e .1))))
+module _ (f : Figures) (event n : Notice) where
+  abbrev before-evening : Notice → Bool
+  before-evening m = ltb (m .start) (f .evening .start)
 
-  alike-iff : (sameBand last n ≡ true) ↔ Alike last n
+  alike-iff : (sameBand f event n ≡ true) ↔ Alike f event n
   unfolding sameBand
   alike-iff = (
-    λ h. let p = both (eqb (last .day) (n .day)) (Bool·beq (ltb (last .start) 16) (ltb (n .start) 16)) h in
-        (eqb-true (last .day) (n .day) (p .0), same-bits (ltb (last .start) 16) (ltb (n .start) 16) .0 (p .1)),
-    λ r. rw (eq-eqb (last .day) (n .day) (r .0)) (same-bits (ltb (last .start) 16) (ltb (n .start) 16) .1 (r .1)),
+    λ h. let p = both (eqb (event .day) (n .day)) (Bool·beq (before-evening event) (before-evening n)) h in
+        record { same-day = eqb-true (event .day) (n .day) (p .0); same-band = same-bits (before-evening event) (before-evening n) .0 (p .1) },
+    λ r. rw (eq-eqb (event .day) (n .day) (r .same-day)) (same-bits (before-evening event) (before-evening n) .1 (r .same-band)),
   )
 
-  pub apart-iff : (sameBand last n ≡ false) ↔ (Alike last n → ⊥)
+  pub apart-iff : (sameBand f event n ≡ false) ↔ (Alike f event n → ⊥)
   apart-iff = (
     λ h r. false≢true (sym h ∙ alike-iff .1 r),
-    λ r. not-so (sameBand last n) (λ e. r (alike-iff .0 e)),
+    λ r. not-so (sameBand f event n) (λ e. r (alike-iff .0 e)),
   )
 
 -- the hours with this notice

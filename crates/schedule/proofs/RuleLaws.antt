@@ -63,9 +63,9 @@ past-on w d k e p =
     }
 
 -- rule 16 of a later day
-pub later-day : (last n : Notice) → last .day < n .day → false ≡ sameBand last n
+pub later-day : (f : Figures) (event n : Notice) → event .day < n .day → false ≡ sameBand f event n
 unfolding sameBand
-later-day last n h = rw (ne-eqb (last .day) (n .day) (λ (e : last .day ≡ n .day). omega arith))
+later-day f event n h = rw (ne-eqb (event .day) (n .day) (λ (e : event .day ≡ n .day). omega arith))
 
 pub limit-is : (f : Figures) (so : Sofar) (n : Notice) (h : ℕ) → h ≡ hoursOf n → ltb (f .hours) (so .hours + h) ≡ overLimit f so n
 unfolding overLimit

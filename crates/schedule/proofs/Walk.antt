@@ -44,8 +44,8 @@ pub record Passed (w : Winter) (f : Figures) (so : Sofar) (n : Notice) : Type 0 
   pub week : barredWeekend f w n ≡ false
   pub hours : badHours f n ≡ false
   pub long : badLength f n ≡ false
-  pub order : startsBefore (so .last) n ≡ false
-  pub apart : sameBand (so .last) n ≡ false
+  pub order : startsBefore (so .event) n ≡ false
+  pub apart : sameBand f (so .event) n ≡ false
   pub limit : overLimit f so n ≡ false
 
 module _ (w : Winter) (f : Figures) (so : Sofar) (n : Notice) where
@@ -98,14 +98,23 @@ rows-numbered w f l k = notice-numbered w f (sofarAt l k) (noticeAt l k) k
 pub notices-numbered : (w : Winter) (f : Figures) (l : List ℕ) → Numbered (noticesTable w f l)
 notices-numbered w f l = walk-numbered (rowsAt w f l) (rows-numbered w f l) (countOf l)
 
+-- what stands before a notice: the hours are those of the notices before it, and the last event is the notice before it
 pub sofar-hours : (l : List ℕ) (k : ℕ) → sofarAt l k .hours ≡ hoursTo l k
-unfolding sofarAt
+unfolding sofarAt afterNotice
 sofar-hours l zero = sym (hours-none l)
-sofar-hours l (suc k) = refl
+sofar-hours l (suc k) = rw (sofar-hours l k) (sym (hours-next l k))
 
-pub sofar-next : (l : List ℕ) (k : ℕ) → afterNotice (sofarAt l k) (noticeAt l k) ≡ sofarAt l (k + 1)
-unfolding afterNotice sofarAt
-sofar-next l k = rw (add-one k, sofar-hours l k, hours-next l k)
+pub sofar-none : (l : List ℕ) → sofarAt l 0 ≡ nothingBefore
+unfolding sofarAt
+sofar-none l = refl
+
+pub sofar-event : (l : List ℕ) (k : ℕ) → sofarAt l (suc k) .event ≡ noticeAt l k
+unfolding sofarAt afterNotice
+sofar-event l k = refl
+
+sofar-next : (l : List ℕ) (k : ℕ) → afterNotice (sofarAt l k) (noticeAt l k) ≡ sofarAt l (k + 1)
+unfolding sofarAt
+sofar-next l k = rw (add-one k) refl
 
 -- the loop, over plain variables
 

@@ -15,7 +15,7 @@ use Rattle.laws.specs.Answer.{Answer}
 use Rattle.laws.specs.Rows.{rowsTo}
 use Rattle.laws.specs.Table.{Row, row, firstOf}
 use Rattle.notices.specs.Hours.{badHours, badLength}
-use Rattle.notices.specs.Notices.{noticeNumbers, longestList, countOf, noNotice, noticeAt, hoursOf, hoursTo}
+use Rattle.notices.specs.Notices.{noticeNumbers, longestList, countOf, noNotice, noticeAt, hoursOf}
 use Rattle.notices.specs.Profiles.{figuresOf, named}
 use Rattle.notices.specs.declared.notices.Notice.{Notice}
 use Rattle.notices.specs.declared.profiles.Figures.{Figures}
@@ -39,8 +39,8 @@ ownRows w f n k =
 -- its rules among the others
 unfoldable pub listRows : Figures → Sofar → Notice → ℕ → List Row
 listRows f so n k =
-    row 15 k (startsBefore (so .last) n)
-    ∷ row 16 k (sameBand (so .last) n)
+    row 15 k (startsBefore (so .event) n)
+    ∷ row 16 k (sameBand f (so .event) n)
     ∷ row 18 k (overLimit f so n)
     ∷ []
 
@@ -48,16 +48,16 @@ listRows f so n k =
 unfoldable pub noticeRows : Winter → Figures → Sofar → Notice → ℕ → List Row
 noticeRows w f so n k = ownRows w f n k ++ listRows f so n k
 
--- what stands before a notice: before the first, none; before the next, this notice and the hours with it
+-- the last event so far and the hours so far: before the first notice none, and after a notice this one and its hours too
 abbrev pub nothingBefore : Sofar
-nothingBefore = record { last = noNotice; hours = 0 }
+nothingBefore = record { event = noNotice; hours = 0 }
 
 unfoldable pub afterNotice : Sofar → Notice → Sofar
-afterNotice so n = record { last = n; hours = so .hours + hoursOf n }
+afterNotice so n = record { event = n; hours = so .hours + hoursOf n }
 
 unfoldable pub sofarAt : List ℕ → ℕ → Sofar
 sofarAt l zero = nothingBefore
-sofarAt l (suc k) = record { last = noticeAt l k; hours = hoursTo l (suc k) }
+sofarAt l (suc k) = afterNotice (sofarAt l k) (noticeAt l k)
 
 -- the rows of the notice at index k of a list, and those of all its notices, one after another
 unfoldable pub rowsAt : Winter → Figures → List ℕ → ℕ → List Row

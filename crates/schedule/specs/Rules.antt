@@ -10,7 +10,6 @@ use Rattle.calendar.specs.Days.{inPeriod}
 use Rattle.calendar.specs.declared.answers.Kind.{Kind}
 use Rattle.calendar.specs.declared.answers.Winter.{Winter}
 use Rattle.notices.specs.Notices.{hoursOf}
-use Rattle.notices.specs.Profiles.{eveningStart}
 use Rattle.notices.specs.declared.notices.Notice.{Notice}
 use Rattle.notices.specs.declared.profiles.Figures.{Figures}
 use Rattle.schedule.specs.declared.rules.Sofar.{Sofar}
@@ -31,9 +30,10 @@ barredWeekend f w n = not (f .weekends) && weekend w (n .day)
 unfoldable pub startsBefore : Notice → Notice → Bool
 startsBefore last n = ltb (n .day) (last .day) || (eqb (n .day) (last .day) && ltb (n .start) (last .end))
 
--- "16: same day and band as the notice before it"
-unfoldable pub sameBand : Notice → Notice → Bool
-sameBand last n = eqb (last .day) (n .day) && Bool·beq (ltb (last .start) eveningStart) (ltb (n .start) eveningStart)
+-- "16: same day and band as the notice before it", said of the last event so far: each lies inside one band (13), so that the band is told
+-- by whether it starts before the evening's
+unfoldable pub sameBand : Figures → Notice → Notice → Bool
+sameBand f event n = eqb (event .day) (n .day) && Bool·beq (ltb (event .start) (f .evening .start)) (ltb (n .start) (f .evening .start))
 
 -- "18: total hours pass the winter's limit with this notice"
 unfoldable pub overLimit : Figures → Sofar → Notice → Bool

@@ -54,11 +54,11 @@ fn own_verdict(w: Winter, f: Figures, n: Notice, k: u32) -> Verdict
 fn list_verdict(f: Figures, so: Sofar, n: Notice, k: u32) -> Verdict
     ensures { λ r. ⌜ verdictPaper r ≡ firstOf (listRows f so n k) ⌝ }
 {
-    let last = so.last;
-    if starts_before(last, n) {
+    let event = so.event;
+    if starts_before(event, n) {
         return Verdict::Refused(Rule::StartsBefore, k);
     }
-    if same_band(last, n) {
+    if same_band(f, event, n) {
         return Verdict::Refused(Rule::SameBand, k);
     }
     if over_limit(f, so, n) {
@@ -83,12 +83,12 @@ fn notice_verdict(w: Winter, f: Figures, so: Sofar, n: Notice, k: u32) -> Verdic
 fn nothing_before() -> Sofar
     ensures { λ r. ⌜ r ≡ nothingBefore ⌝ }
 {
-    let last = Notice {
+    let event = Notice {
         day: 0,
         start: 0,
         end: 0,
     };
-    Sofar { last, hours: 0 }
+    Sofar { event, hours: 0 }
 }
 
 // What stands before the next notice.
@@ -98,7 +98,7 @@ fn after_notice(so: Sofar, n: Notice) -> Sofar
 {
     let hours = notices::hours_of(n);
     Sofar {
-        last: n,
+        event: n,
         hours: so.hours + hours,
     }
 }

@@ -8,11 +8,10 @@ use calendar::Kind;
 use calendar::Winter;
 use notices::Figures;
 use notices::Notice;
-use notices::Profile;
 
-// What stands before a notice: the notice before it and the hours of all before it.
+// What stands before a notice: the last event so far, which is the notice before it, and the hours of all events so far.
 pub struct Sofar {
-    pub last: Notice,
+    pub event: Notice,
     pub hours: u32,
 }
 
@@ -61,15 +60,14 @@ pub(crate) fn starts_before(last: Notice, n: Notice) -> bool
     (n.day < last.day) | (n.start < last.end)
 }
 
-// 16: the same day and band as the notice before it. Each lies inside one band (13), so that the band is told by whether it starts before
-// the evening's. On a later day, as most are, there is nothing more to ask.
-pub(crate) fn same_band(last: Notice, n: Notice) -> bool
-    ensures { λ r. ⌜ r ≡ sameBand last n ⌝ }
+// 16: the same day and band as the last event so far. On a later day, as most are, there is nothing more to ask.
+pub(crate) fn same_band(f: Figures, event: Notice, n: Notice) -> bool
+    ensures { λ r. ⌜ r ≡ sameBand f event n ⌝ }
 {
-    if last.day < n.day {
+    if event.day < n.day {
         return false;
     }
-    (last.day == n.day) & ((last.start < Profile::EVENING) == (n.start < Profile::EVENING))
+    (event.day == n.day) & ((event.start < f.evening.start) == (n.start < f.evening.start))
 }
 
 // 18: the total hours pass the winter's limit with this notice. In 64 bits no sum wraps.

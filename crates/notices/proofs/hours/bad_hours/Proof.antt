@@ -1,4 +1,4 @@
--- `bad_hours` tests that there are hours, and then the bands.
+-- `bad_hours` tests that there are hours, and then the two bands.
 -- Assumes nothing.
 use borrow.Author.Needs.{needs}
 use borrow.Author.Tests.{le-leb, lt-leb}
@@ -10,12 +10,17 @@ returns : tie.Need-returns
 unfolding badHours
 returns c = rw (le-leb _ _ (c .if1 .taken))
 
-outside-bands-requires : tie.Need-outside-bands-requires
-outside-bands-requires c κs = search needs
+outside-requires : tie.Need-outside-requires
+outside-requires c κs = search needs
+
+outside-requires-2 : tie.Need-outside-requires-2
+outside-requires-2 c κs = search needs
 
 returns-2 : tie.Need-returns-2
 unfolding badHours
-returns-2 c = rw (lt-leb _ _ (c .before .if1 .left)) (c .outside-bands .ensures)
+returns-2 c =
+    let morning = c .before in
+    rw (lt-leb _ _ (morning .before .if1 .left), ← morning .outside .ensures, ← c .outside2 .ensures)
 
 pub bad-hours-spec : {M : Type 1} → statement M
-bad-hours-spec = tie.close (tie.spec returns outside-bands-requires returns-2)
+bad-hours-spec = tie.close (tie.spec returns outside-requires outside-requires-2 returns-2)

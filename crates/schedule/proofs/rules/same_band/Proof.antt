@@ -7,7 +7,7 @@ use Rattle.schedule.proofs.rules.same_band.Statement.{statement}
 use Rattle.schedule.proofs.rules.same_band.Tie as tie
 
 returns : tie.Need-returns
-returns c = later-day _ _ (c .if1 .taken)
+returns c = later-day _ _ _ (c .if1 .taken)
 
 returns-2 : tie.Need-returns-2
 unfolding sameBand
