@@ -20,7 +20,10 @@ pub fn bad_hours(f: Figures, n: Notice) -> bool
     if n.end <= n.start {
         return true;
     }
-    outside(f.morning, n) & outside(f.evening, n)
+    if outside(f.morning, n) {
+        return outside(f.evening, n);
+    }
+    false
 }
 
 // Rule 14: whether the length of a notice is not allowed.
