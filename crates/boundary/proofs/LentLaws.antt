@@ -1,13 +1,13 @@
 -- Laws of lent bytes: how many numbers they are, and that the list check answers the same on what was read of a list.
 -- Assumes nothing.
-use Prim.Native.Nat.{ℕ, _*_, _/_, _%_, _≤_}
-use mathlib.Core.Bool.{Bool, true, false, cond, true≢false}
-use mathlib.Core.List.{List, [], _∷_}
+use Prim.Native.Nat.{ℕ, _*_, _/_, _%_, _≤_, _<_}
+use mathlib.Core.Bool.{Bool, true, false, cond}
+use mathlib.Core.List.{List}
 use mathlib.Core.Logic.{⊎-elim}
-use mathlib.Core.Path.{_≡_, refl, sym, ap, _∙_}
+use mathlib.Core.Path.{_≡_, refl, ap, _∙_}
 use native.Mathlib.Omega.{arith}
 use lib.Dec.{eqb}
-use lib.ListN.{length}
+use lib.ListN.{length, replicate, length-replicate}
 use borrow.Author.Tests.{eq-eqb, eqb-true}
 use Rattle.dates.proofs.Promise.{days-two}
 use Rattle.dates.specs.Winters.{days}
@@ -17,32 +17,37 @@ use Rattle.schedule.proofs.Walk.{list-fits}
 use Rattle.schedule.specs.ListCheck.{badList, checkAnswer}
 use Rattle.wire.proofs.ReadLaws.{numbers-long, read-whole, read-long}
 use Rattle.wire.specs.Bytes.{numbersTo, numbersRead}
-use Rattle.boundary.specs.Lent.{numberCount, decoded, listRoom}
+use Rattle.boundary.specs.Lent.{tooMany, numberCount, decoded, listRoom}
 use Rattle.boundary.specs.Whole.{Lengths}
 
 pub decoded-long : (bytes : List ℕ) → length (decoded bytes) ≡ numberCount (length bytes)
 unfolding decoded numberCount
 decoded-long bytes = by (eqb (length bytes % 4) 0)
   where
-    by : (b : Bool) → length (cond b (numbersTo bytes (length bytes / 4)) (0 ∷ [])) ≡ cond b (length bytes / 4) 1
+    by : (b : Bool) → length (cond b (numbersTo bytes (length bytes / 4)) (replicate tooMany 0)) ≡ cond b (length bytes / 4) tooMany
     by true = numbers-long bytes (length bytes / 4)
-    by false = refl
+    by false = length-replicate {A = ℕ} tooMany 0
 
 pub decoded-whole : (bytes : List ℕ) → length bytes % 4 ≡ 0 → decoded bytes ≡ numbersTo bytes (length bytes / 4)
 unfolding decoded
 decoded-whole bytes e = rw (eq-eqb (length bytes % 4) 0 e)
 
--- bytes that are not taken for one number are whole numbers
-pub whole-numbers : (n : ℕ) → (numberCount n ≡ 1 → ⊥) → (n % 4 ≡ 0) × (numberCount n ≡ n / 4)
-unfolding numberCount
-whole-numbers n f = by (eqb (n % 4) 0) refl f
-  where
-    by : (b : Bool) → eqb (n % 4) 0 ≡ b → (cond b (n / 4) 1 ≡ 1 → ⊥) → (n % 4 ≡ 0) × (cond b (n / 4) 1 ≡ n / 4)
-    by true q f = (eqb-true (n % 4) 0 q, refl)
-    by false q f = absurd (f refl)
+-- so many bytes are whole numbers
+pub record Whole (n : ℕ) : Type 0 where
+  pub none-over : n % 4 ≡ 0
+  pub count : numberCount n ≡ n / 4
 
-good-numbers : (n : ℕ) → badList (numberCount n) ≡ false → (n % 4 ≡ 0) × (numberCount n ≡ n / 4)
-good-numbers n e = whole-numbers n (λ (o : numberCount n ≡ 1). true≢false (sym one-is-bad ∙ sym (ap badList o) ∙ e))
+-- bytes that are not taken for too many numbers are whole numbers
+whole-numbers : (n : ℕ) → numberCount n < tooMany → Whole n
+unfolding numberCount
+whole-numbers n h = by (eqb (n % 4) 0) refl h
+  where
+    by : (b : Bool) → eqb (n % 4) 0 ≡ b → cond b (n / 4) tooMany < tooMany → Whole n
+    by true q h = record { none-over = eqb-true (n % 4) 0 q; count = rw q }
+    by false q h = absurd (omega (arith, h))
+
+good-numbers : (n : ℕ) → badList (numberCount n) ≡ false → Whole n
+good-numbers n e = let f = list-fits (numberCount n) e in whole-numbers n (omega arith)
 
 -- the list check: what was read of a list, with as much room as is taken
 
@@ -67,7 +72,7 @@ read-checks w profile list numbers e = by (badList (numberCount (length list))) 
         bad-lists-alike w profile (numbersRead list numbers) (decoded list) (ap badList one ∙ one-is-bad) (ap badList (decoded-long list) ∙ q)
     by false q =
         let g = good-numbers (length list) q in
-        rw (read-whole list numbers (e ∙ room-cases (length list) false q ∙ g .1), decoded-whole list (g .0))
+        rw (read-whole list numbers (e ∙ room-cases (length list) false q ∙ g .count), decoded-whole list (g .none-over))
 
 -- the settlement: lengths that are not refused are of whole numbers, and there is room for them
 pub record RightLengths (book list out : ℕ) : Type 0 where
@@ -79,16 +84,15 @@ pub record RightLengths (book list out : ℕ) : Type 0 where
 pub right-lengths : (w p book list out : ℕ) → RightCall w (numberCount book) p (numberCount list) (out / 8) → RightLengths book list out
 right-lengths w p book list out s =
     let most : days w ≤ 152 = ⊎-elim (λ (e : days w ≡ 151). omega arith) (λ (e : days w ≡ 152). omega arith) (days-two w) in
-    let some : 151 ≤ days w = ⊎-elim (λ (e : days w ≡ 151). omega arith) (λ (e : days w ≡ 152). omega arith) (days-two w) in
-    let b = whole-numbers book (λ (o : numberCount book ≡ 1). let h = s .book in omega arith) in
-    let l = whole-numbers list (λ (o : numberCount list ≡ 1). let h = s .whole in omega arith) in
     let hours = s .book in
     let few = s .few in
     let whole = s .whole in
-    let room : 4 * (list / 4 / 3) ≤ out / 8 = rw (← l .1) (s .room-for) in
+    let b = whole-numbers book (omega arith) in
+    let l = whole-numbers list (omega arith) in
+    let room : 4 * (list / 4 / 3) ≤ out / 8 = rw (← l .count) (s .room-for) in
     record {
-      book-whole = b .0;
-      list-whole = l .0;
+      book-whole = b .none-over;
+      list-whole = l .none-over;
       lines-fit = room;
-      lengths = record { hours = omega (arith, b .1); notices = omega (arith, l .1); room-for = omega arith };
+      lengths = record { hours = omega (arith, b .count); notices = omega (arith, l .count); room-for = omega arith };
     }

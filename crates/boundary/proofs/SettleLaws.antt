@@ -1,10 +1,11 @@
 -- Laws of the settlement on bytes, one for each way out: refused by its lengths, refused by its notices, or settled.
 -- Assumes nothing.
 use Prim.Native.Nat.{ℕ, _*_, _/_, _≤_}
-use mathlib.Core.List.{List}
+use mathlib.Core.List.{List, _++_}
 use mathlib.Core.Path.{_≡_, sym, ap, _∙_}
 use native.Mathlib.Omega.{arith}
-use lib.ListN.{length}
+use lib.ListN.{length, take, drop, length-append}
+use lib.Seq.{take-at, length-take-le}
 use borrow.Author.Tests.{eq-eqb, ne-eqb}
 use Rattle.laws.specs.Table.{refusalAt, firstOf}
 use Rattle.money.proofs.RefusalLaws.{call-right}
@@ -14,7 +15,7 @@ use Rattle.money.specs.Refusals.{callRows}
 use Rattle.money.specs.Settlement.{refusedWith, settlement, written}
 use Rattle.money.specs.declared.settlement.Settlement.{Settlement}
 use Rattle.notices.specs.Notices.{countOf}
-use Rattle.wire.proofs.ReadLaws.{numbers-long, read-whole}
+use Rattle.wire.proofs.ReadLaws.{numbers-long, read-whole, read-long}
 use Rattle.wire.proofs.WriteLaws.{written-whole}
 use Rattle.wire.specs.Bytes.{numbersRead, bytesWritten}
 use Rattle.boundary.specs.Calls.{packed, packedSettlement, linesOver, settledOver, settleCall, settleBytes}
@@ -30,6 +31,27 @@ read-is bytes numbers e = read-whole bytes numbers e
 pub whole-long : (bytes : List ℕ) → length (wholeNumbers bytes) ≡ length bytes / 4
 unfolding wholeNumbers
 whole-long bytes = numbers-long bytes (length bytes / 4)
+
+-- what was read at the front of longer room
+module _ (bytes room x : List ℕ) (fits : length bytes / 4 ≤ length room) (read : x ≡ numbersRead bytes (take (length bytes / 4) room)) where
+  front-long : length x ≡ length bytes / 4
+  front-long = ap length read ∙ read-long bytes (take (length bytes / 4) room) ∙ length-take-le (length bytes / 4) room fits
+
+  pub front-fits : length bytes / 4 ≤ length (x ++ drop (length bytes / 4) room)
+  front-fits = simp length-append (omega (arith, front-long))
+
+  pub front-is : take (length bytes / 4) (x ++ drop (length bytes / 4) room) ≡ wholeNumbers bytes
+  front-is =
+      take-at x (drop (length bytes / 4) room) (length bytes / 4) front-long
+      ∙ read
+      ∙ read-is bytes (take (length bytes / 4) room) (length-take-le (length bytes / 4) room fits)
+
+  pub front-count : length bytes / 4 ≡ length (take (length bytes / 4) (x ++ drop (length bytes / 4) room))
+  front-count = sym (ap length front-is ∙ whole-long bytes)
+
+-- just the room for the lines of a list of n numbers, at the front of longer room
+pub lines-room : (room : List ℕ) (n long : ℕ) → n ≡ long → 4 * (n / 3) ≤ length room → length (take (4 * (n / 3)) room) ≡ 4 * (long / 3)
+lines-room room n long e h = length-take-le (4 * (n / 3)) room h ∙ rw e
 
 -- the call's refusal: number 0, or refused by winter, price or lengths
 module _ (w p : ℕ) (book list out : List ℕ) (readings numbers number : ℕ) (b : readings ≡ numberCount (length book)) (l : numbers ≡ numberCount (length list))

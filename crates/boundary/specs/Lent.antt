@@ -2,18 +2,22 @@
 -- Assumes nothing.
 use Prim.Native.Nat.{ℕ, _/_, _%_}
 use mathlib.Core.Bool.{cond}
-use mathlib.Core.List.{List, [], _∷_}
+use mathlib.Core.List.{List}
 use lib.Dec.{eqb}
-use lib.ListN.{length}
+use lib.ListN.{length, replicate}
 use Rattle.schedule.specs.ListCheck.{badList}
 use Rattle.wire.specs.Bytes.{numbersTo}
 
--- "bytes over from whole numbers are a wrong length": so many bytes are taken for one number, which no book and no list is
+-- more numbers than any book or list has
+abbrev pub tooMany : ℕ
+tooMany = 65536
+
+-- "bytes over from whole numbers are a wrong length": they are taken for too many numbers
 unfoldable pub numberCount : ℕ → ℕ
-numberCount length = cond (eqb (length % 4) 0) (length / 4) 1
+numberCount length = cond (eqb (length % 4) 0) (length / 4) tooMany
 
 unfoldable pub decoded : List ℕ → List ℕ
-decoded bytes = cond (eqb (length bytes % 4) 0) (numbersTo bytes (length bytes / 4)) (0 ∷ [])
+decoded bytes = cond (eqb (length bytes % 4) 0) (numbersTo bytes (length bytes / 4)) (replicate tooMany 0)
 
 -- how many numbers of a list are read: all, or just one where there are too many or bytes over
 unfoldable pub listRoom : ℕ → ℕ

@@ -31,46 +31,7 @@ fn settle_numbers(
     0
 }
 
-// The same from the bytes of a list, with just the room for its numbers.
-fn settle_list(
-    winter: u32,
-    book: &[u32],
-    price: u32,
-    list: &[u8],
-    numbers: &mut [u32],
-    lines: &mut [u64],
-    out: &mut [u8],
-) -> u32
-    requires { ⌜ length (now numbers) ≡ length (now list) / 4 ⌝ }
-    requires { ⌜ (length (now lines) ≡ 4 * (length (now list) / 4 / 3)) × (8 * length (now lines) ≤ length (now out)) ⌝ }
-    ensures { λ r. ⌜ r ≡ wholeCall winter (now (book .entry)) price (wholeNumbers (now (list .entry))) ⌝ }
-    ensures { λ _. ⌜ now (out .exit) ≡ wholeBytes winter (now (book .entry)) price (wholeNumbers (now (list .entry))) (now (out .entry)) ⌝ }
-{
-    wire::read_numbers(list, numbers);
-    settle_numbers(winter, book, price, numbers, lines, out)
-}
-
-// The same from the bytes of a book too.
-fn settle_both(
-    winter: u32,
-    book: &[u8],
-    readings: &mut [u32],
-    price: u32,
-    list: &[u8],
-    numbers: &mut [u32],
-    lines: &mut [u64],
-    out: &mut [u8],
-) -> u32
-    requires { ⌜ (length (now readings) ≡ length (now book) / 4) × (length (now numbers) ≡ length (now list) / 4) ⌝ }
-    requires { ⌜ (length (now lines) ≡ 4 * (length (now list) / 4 / 3)) × (8 * length (now lines) ≤ length (now out)) ⌝ }
-    ensures { λ r. ⌜ r ≡ wholeCall winter (wholeNumbers (now (book .entry))) price (wholeNumbers (now (list .entry))) ⌝ }
-    ensures { λ _. ⌜ now (out .exit) ≡ wholeBytes winter (wholeNumbers (now (book .entry))) price (wholeNumbers (now (list .entry))) (now (out .entry)) ⌝ }
-{
-    wire::read_numbers(book, readings);
-    settle_list(winter, readings, price, list, numbers, lines, out)
-}
-
-// The same with room of its own for the numbers, of the right lengths.
+// The same from bytes of the right lengths, with room of its own for the numbers.
 fn settle_whole(winter: u32, book: &[u8], price: u32, list: &[u8], out: &mut [u8]) -> u32
     requires { ⌜ Lengths (length (now book)) (length (now list)) (length (now out)) ⌝ }
     ensures { λ r. ⌜ r ≡ wholeCall winter (wholeNumbers (now (book .entry))) price (wholeNumbers (now (list .entry))) ⌝ }
@@ -82,13 +43,13 @@ fn settle_whole(winter: u32, book: &[u8], price: u32, list: &[u8], out: &mut [u8
     let hours = book.len() / 4;
     let count = list.len() / 4;
     let room = 4 * (count / 3);
-    settle_both(
+    wire::read_numbers(book, &mut readings[..hours]);
+    wire::read_numbers(list, &mut numbers[..count]);
+    settle_numbers(
         winter,
-        book,
-        &mut readings[..hours],
+        &readings[..hours],
         price,
-        list,
-        &mut numbers[..count],
+        &numbers[..count],
         &mut lines[..room],
         out,
     )

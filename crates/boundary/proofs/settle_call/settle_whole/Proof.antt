@@ -1,10 +1,14 @@
--- `settle_whole` has room for the numbers of every book and list of the right lengths.
--- Assumes nothing.
+use mathlib.Core.Path.{refl, _∙_}
 use native.Mathlib.Omega.{arith}
 use lib.ListN.{length-take}
 use borrow.Author.Needs.{needs}
+use Rattle.boundary.proofs.SettleLaws.{front-fits, front-is, front-count, lines-room}
 use Rattle.boundary.proofs.settle_call.settle_whole.Statement.{statement}
 use Rattle.boundary.proofs.settle_call.settle_whole.Tie as tie
+use Rattle.boundary.proofs.settle_call.settle_whole.Reads as reads
+use Rattle.boundary.proofs.settle_call.settle_whole.Lts as lts
+use Rattle.boundary.proofs.settle_call.settle_numbers.Reads as settle-numbers-reads
+use Rattle.wire.proofs.read_numbers.Reads as read-numbers-reads
 
 mul-room : tie.Need-mul-room
 mul-room c = search needs
@@ -12,29 +16,65 @@ mul-room c = search needs
 array-borrow-prefix-readings : tie.Need-array-borrow-prefix-readings
 array-borrow-prefix-readings c = search needs
 
-slice-aggregate-settle-both : tie.Need-slice-aggregate-settle-both
-slice-aggregate-settle-both c = simp length-take (omega arith)
+slice-aggregate-read-numbers : tie.Need-slice-aggregate-read-numbers
+slice-aggregate-read-numbers c = simp length-take (omega arith)
+
+read-numbers-requires : tie.Need-read-numbers-requires
+read-numbers-requires c κs = search needs
 
 array-borrow-prefix-numbers : tie.Need-array-borrow-prefix-numbers
 array-borrow-prefix-numbers c = search needs
 
-slice-aggregate-settle-both-2 : tie.Need-slice-aggregate-settle-both-2
-slice-aggregate-settle-both-2 c = simp length-take (omega arith)
+slice-aggregate-read-numbers-2 : tie.Need-slice-aggregate-read-numbers-2
+slice-aggregate-read-numbers-2 c = simp length-take (omega arith)
+
+read-numbers-requires-2 : tie.Need-read-numbers-requires-2
+read-numbers-requires-2 c κs = search needs
+
+array-share-prefix-readings : tie.Need-array-share-prefix-readings
+array-share-prefix-readings c =
+    let read = c .before .before .before .before in
+    front-fits (read .before .before .before .before .before .args .book .now) _ _ (omega arith) (read .read-numbers .ensures)
+
+slice-aggregate-settle-numbers : tie.Need-slice-aggregate-settle-numbers
+slice-aggregate-settle-numbers c =
+    let read = c .before .before .before .before .before in
+    front-count (read .before .before .before .before .before .args .book .now) _ _ (omega arith) (read .read-numbers .ensures)
+
+array-share-prefix-numbers : tie.Need-array-share-prefix-numbers
+array-share-prefix-numbers c =
+    let read = c .before .before in
+    front-fits (read .before .before .before .before .before .before .before .before .args .list .now) _ _ (omega arith) (read .read-numbers2 .ensures)
+
+slice-aggregate-settle-numbers-2 : tie.Need-slice-aggregate-settle-numbers-2
+slice-aggregate-settle-numbers-2 c =
+    let read = c .before .before .before in
+    front-count (read .before .before .before .before .before .before .before .before .args .list .now) _ _ (omega arith) (read .read-numbers2 .ensures)
 
 array-borrow-prefix-lines : tie.Need-array-borrow-prefix-lines
 array-borrow-prefix-lines c = search needs
 
-slice-aggregate-settle-both-3 : tie.Need-slice-aggregate-settle-both-3
-slice-aggregate-settle-both-3 c = simp length-take (omega arith)
+slice-aggregate-settle-numbers-3 : tie.Need-slice-aggregate-settle-numbers-3
+slice-aggregate-settle-numbers-3 c = simp length-take (omega arith)
 
-settle-both-requires : tie.Need-settle-both-requires
-settle-both-requires c κs = simp length-take (omega arith)
+settle-numbers-requires : tie.Need-settle-numbers-requires
+settle-numbers-requires c κs =
+    let read = c .before .before .before .before .before in
+    let count = front-count (read .before .before .before .before .before .before .before .before .args .list .now) _ _ (omega arith) (read .read-numbers2 .ensures) in
+    (lines-room _ _ _ count (omega arith), simp length-take (omega arith))
 
 same-length : tie.Need-same-length
 same-length c = search needs
 
 returns : tie.Need-returns
-returns c = search needs
+returns c =
+    let settled = c .before .before .before in
+    let list-read = settled .before .before .before .before .before .before in
+    let book-read = list-read .before .before .before in
+    let start = book-read .before .before .before .before .before in
+    let book-is = front-is (start .args .book .now) _ _ (omega arith) (book-read .read-numbers .ensures) in
+    let list-is = front-is (start .args .list .now) _ _ (omega arith) (list-read .read-numbers2 .ensures) in
+    (settled .settle-numbers .ensures .0 ∙ rw (book-is, list-is) refl, settled .settle-numbers .ensures .1 ∙ rw (book-is, list-is) refl)
 
 pub settle-whole-spec : {M : Type 1} → statement M
 settle-whole-spec =
@@ -42,11 +82,17 @@ settle-whole-spec =
     (tie.spec
     mul-room
     array-borrow-prefix-readings
-    slice-aggregate-settle-both
+    slice-aggregate-read-numbers
+    read-numbers-requires
     array-borrow-prefix-numbers
-    slice-aggregate-settle-both-2
+    slice-aggregate-read-numbers-2
+    read-numbers-requires-2
+    array-share-prefix-readings
+    slice-aggregate-settle-numbers
+    array-share-prefix-numbers
+    slice-aggregate-settle-numbers-2
     array-borrow-prefix-lines
-    slice-aggregate-settle-both-3
-    settle-both-requires
+    slice-aggregate-settle-numbers-3
+    settle-numbers-requires
     same-length
     returns)
