@@ -11,7 +11,7 @@ use lib.ListN.{length, replicate, length-replicate}
 use borrow.Author.Tests.{eq-eqb, eqb-true}
 use Rattle.dates.proofs.Promise.{days-two}
 use Rattle.dates.specs.Winters.{days}
-use Rattle.money.proofs.RefusalLaws.{RightCall}
+use Rattle.credit.proofs.RefusalLaws.{RightCall}
 use Rattle.schedule.proofs.Bounds.{bad-lists-alike, one-is-bad}
 use Rattle.schedule.proofs.Walk.{list-fits}
 use Rattle.schedule.specs.ListCheck.{badList, checkAnswer}

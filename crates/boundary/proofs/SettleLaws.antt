@@ -7,13 +7,15 @@ use native.Mathlib.Omega.{arith}
 use lib.ListN.{length, take, drop, length-append}
 use lib.Seq.{take-at, length-take-le}
 use borrow.Author.Tests.{eq-eqb, ne-eqb}
+use Rattle.laws.specs.Bounds.{largestNumber, largestPlace}
 use Rattle.laws.specs.Table.{refusalAt, firstOf}
-use Rattle.money.proofs.RefusalLaws.{call-right}
-use Rattle.money.proofs.SettlementLaws.{number-is, settled-accepted, settlement-within, call-refused, settled-room, written-just}
-use Rattle.money.specs.Lines.{eventAt, linesTo}
-use Rattle.money.specs.Refusals.{callRows}
-use Rattle.money.specs.Settlement.{refusedWith, settlement, written}
-use Rattle.money.specs.declared.settlement.Settlement.{Settlement}
+use Rattle.credit.proofs.RefusalLaws.{call-right}
+use Rattle.credit.proofs.SettlementLaws.{number-is, settled-accepted, settlement-bounded, call-refused, settled-room, written-just}
+use Rattle.credit.specs.Lines.{linesTo}
+use Rattle.settlement.specs.Events.{eventAt}
+use Rattle.credit.specs.Refusals.{callRows}
+use Rattle.credit.specs.Settlement.{refusedWith, settlement, written}
+use Rattle.credit.specs.declared.call.Settlement.{Settlement}
 use Rattle.notices.specs.Notices.{countOf}
 use Rattle.wire.proofs.ReadLaws.{numbers-long, read-whole, read-long}
 use Rattle.wire.proofs.WriteLaws.{written-whole}
@@ -96,8 +98,8 @@ module _ (w p : ℕ) (book list lines : List ℕ) (j : length lines ≡ 4 * coun
   unfolding wholeCall
   just-call = ap packedSettlement just-is
 
-  pub just-within : (s .number ≤ 18) × (s .place ≤ 100)
-  just-within = rw e (settlement-within w p book list (length lines))
+  pub just-bounded : (s .number ≤ largestNumber) × (s .place ≤ largestPlace)
+  just-bounded = rw e (settlement-bounded w p book list (length lines))
 
   pub just-refused : (out : List ℕ) → (s .number ≡ 0 → ⊥) → out ≡ wholeBytes w book p list out
   unfolding wholeBytes settledOver

@@ -8,16 +8,17 @@ use native.Mathlib.Omega.{arith}
 use lib.ListN.{length, getD}
 use borrow.Author.Tests.{ne-eqb}
 use Rattle.laws.specs.Answer.{Answer}
-use Rattle.money.proofs.SettlementLaws.{number-is, settled-accepted, settlement-within}
-use Rattle.money.specs.Settlement.{settlement}
-use Rattle.money.specs.declared.settlement.Settlement.{Settlement}
-use Rattle.schedule.proofs.Bounds.{check-within}
+use Rattle.laws.specs.Bounds.{largestPlace}
+use Rattle.credit.proofs.SettlementLaws.{number-is, settled-accepted, settlement-bounded}
+use Rattle.credit.specs.Settlement.{settlement}
+use Rattle.credit.specs.declared.call.Settlement.{Settlement}
+use Rattle.schedule.proofs.Bounds.{check-bounded}
 use Rattle.schedule.specs.ListCheck.{checkAnswer}
 use Rattle.boundary.specs.Calls.{packed, checkCall, settledOver, settleCall, settleBytes}
 use Rattle.boundary.specs.Lent.{decoded}
 
 -- number and place of one packed number
-packed-told : (number place : ℕ) → place ≤ 100 → (packed number place / 65536 ≡ number) × (packed number place % 65536 ≡ place)
+packed-told : (number place : ℕ) → place ≤ largestPlace → (packed number place / 65536 ≡ number) × (packed number place % 65536 ≡ place)
 packed-told number place h = (omega arith, omega arith)
 
 -- of a list check
@@ -27,7 +28,7 @@ module _ (w profile : ℕ) (list : List ℕ) where
 
   pub check-told : (checkCall w profile list / 65536 ≡ checked .number) × (checkCall w profile list % 65536 ≡ getD (checked .values) 0 0)
   unfolding checkCall
-  check-told = packed-told _ _ (check-within w (decoded list) profile .1)
+  check-told = packed-told _ _ (check-bounded w (decoded list) profile .1)
 
 -- of a settlement
 module _ (w p : ℕ) (book list out : List ℕ) where
@@ -36,7 +37,7 @@ module _ (w p : ℕ) (book list out : List ℕ) where
 
   pub settle-told : (settleCall w book p list (length out) / 65536 ≡ settled .number) × (settleCall w book p list (length out) % 65536 ≡ settled .place)
   unfolding settleCall
-  settle-told = packed-told _ _ (settlement-within w p (decoded book) (decoded list) (length out / 8) .1)
+  settle-told = packed-told _ _ (settlement-bounded w p (decoded book) (decoded list) (length out / 8) .1)
 
   -- "0 if none"
   pub accepted-told : settled .number ≡ 0 → settleCall w book p list (length out) ≡ 0

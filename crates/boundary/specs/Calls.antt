@@ -6,9 +6,10 @@ use mathlib.Core.List.{List, _++_}
 use lib.Dec.{eqb}
 use lib.ListN.{length, getD, drop}
 use Rattle.laws.specs.Answer.{Answer}
-use Rattle.money.specs.Lines.{eventAt, linesTo}
-use Rattle.money.specs.Settlement.{settlement}
-use Rattle.money.specs.declared.settlement.Settlement.{Settlement}
+use Rattle.credit.specs.Lines.{linesTo}
+use Rattle.settlement.specs.Events.{eventAt}
+use Rattle.credit.specs.Settlement.{settlement}
+use Rattle.credit.specs.declared.call.Settlement.{Settlement}
 use Rattle.notices.specs.Notices.{countOf}
 use Rattle.schedule.specs.ListCheck.{checkAnswer}
 use Rattle.wire.specs.Bytes.{bytesTo}

@@ -3,7 +3,7 @@
 use Prim.Native.Nat.{ℕ, _*_, _/_, _≤_}
 use mathlib.Core.List.{List}
 use lib.ListN.{length}
-use Rattle.money.specs.Settlement.{settlement}
+use Rattle.credit.specs.Settlement.{settlement}
 use Rattle.notices.specs.Notices.{countOf}
 use Rattle.wire.specs.Bytes.{numbersTo}
 use Rattle.boundary.specs.Calls.{packedSettlement, settledOver}

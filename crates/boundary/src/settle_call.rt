@@ -21,7 +21,7 @@ fn settle_numbers(
     ensures { λ r. ⌜ r ≡ wholeCall winter (now (book .entry)) price (now (list .entry)) ⌝ }
     ensures { λ _. ⌜ now (out .exit) ≡ wholeBytes winter (now (book .entry)) price (now (list .entry)) (now (out .entry)) ⌝ }
 {
-    let s = money::settle(winter, book, price, list, lines);
+    let s = credit::settle(winter, book, price, list, lines);
     let number = s.number;
     let place = s.place;
     if number != 0 {
@@ -62,7 +62,7 @@ pub fn settle_bytes(winter: u32, book: &[u8], price: u32, list: &[u8], out: &mut
 {
     let readings = numbers_in(book.len());
     let numbers = numbers_in(list.len());
-    let number = money::call_refusal(winter, readings, price, numbers, out.len() / 8);
+    let number = credit::call_refusal(winter, readings, price, numbers, out.len() / 8);
     if number != 0 {
         return pack(number, 0);
     }

@@ -27,9 +27,13 @@ use Rattle.form.specs.Said.{eventsOf, valuesOf, bookOf}
 use Rattle.laws.specs.Answer.{refuse}
 use Rattle.laws.specs.Rows.{rowsTo}
 use Rattle.laws.specs.Table.{firstOf}
-use Rattle.money.specs.Lines.{eventAt, energyTo, centsAt, lineAt}
-use Rattle.money.specs.Refusals.{badBook, badPrice, shortOutput, callRows, settlementTable, refusalOf}
-use Rattle.money.specs.Settlement.{settledBy, writtenBy, settlement, written}
+use Rattle.credit.specs.Lines.{lineAt}
+use Rattle.laws.specs.Sums.{sumTo}
+use Rattle.money.specs.Cents.{centsAt}
+use Rattle.money.specs.Price.{badPrice}
+use Rattle.settlement.specs.Events.{eventAt}
+use Rattle.credit.specs.Refusals.{badBook, shortOutput, callRows, settlementTable, refusalOf}
+use Rattle.credit.specs.Settlement.{settledBy, writtenBy, settlement, written}
 use Rattle.money.specs.Worth.{roundedWorth}
 use Rattle.notices.specs.Hours.{outside, badHours, badLength}
 use Rattle.notices.specs.Notices.{noticeAt, hoursOf, hoursTo}
@@ -49,5 +53,5 @@ use Rattle.figures.specs.ScheduleFigures.{mornings, hundredHours, schedu
 use Rattle.figures.specs.TextFigures.{bytesIn, sampleInput, sampleOutput, twice, textFigures}
 
 pub figures-hold : map (λ (f : Figure). f .paper) figures ≡ map (λ (f : Figure). f .computed) figures
-unfolding calendarFigures alsoExcluded alsoFrom easterSunday refuse noEasterYear easterT easterInBook among goodFriday easterMonday excluded leap days winterOf wrongWinter noDay scheduleFigures mornings hundredHours checkAnswer checkTable badList rowsAt noticeRows ownRows listRows firstOf sofarAt afterNotice noticeAt hoursOf hoursTo named figuresOf outsidePeriod onExcludedDay barredWeekend outside badHours badLength startsBefore sameBand overLimit noWinter inPeriod firstWeekday weekday weekend energyFigures sampleDay sampleBook sampleList eventAnswer lineOf askedBy warmUp hoursFrom needed placesOn firstFault faultOf energyOf sumOver trimmedAt trimmedOf sumOf smallestOf largestOf sparedOf aboveLimit trialOf referenceDays before serves masksOf masksTo withHours marksNone hoursMask moneyFigures settlement settledBy written writtenBy refusalOf settlementTable callRows badBook badPrice shortOutput rowsTo lineAt centsAt energyTo eventAt roundedWorth textFigures bytesIn sampleInput sampleOutput twice statementOf formBytes valuesBytes settledBytes settlementBytes formOf bodyOf keyedAt fieldAt markAt wordAt wordFrom numberAt numberFrom digitsFrom digitOf eventLines readLines eventLineAt readLineAt headAt valuesAt misplacedRead misplaced bookDays eventsOf bookOf valuesOf statementLines refusedLines noticeLine bytesOfLines lineBytes fields field decimal digitsIn
+unfolding calendarFigures alsoExcluded alsoFrom easterSunday refuse noEasterYear easterT easterInBook among goodFriday easterMonday excluded leap days winterOf wrongWinter noDay scheduleFigures mornings hundredHours checkAnswer checkTable badList rowsAt noticeRows ownRows listRows firstOf sofarAt afterNotice noticeAt hoursOf hoursTo named figuresOf outsidePeriod onExcludedDay barredWeekend outside badHours badLength startsBefore sameBand overLimit noWinter inPeriod firstWeekday weekday weekend energyFigures sampleDay sampleBook sampleList eventAnswer lineOf askedBy warmUp hoursFrom needed placesOn firstFault faultOf energyOf sumOver trimmedAt trimmedOf sumOf smallestOf largestOf sparedOf aboveLimit trialOf referenceDays before serves masksOf masksTo withHours marksNone hoursMask moneyFigures settlement settledBy written writtenBy refusalOf settlementTable callRows badBook badPrice shortOutput rowsTo lineAt centsAt sumTo eventAt roundedWorth textFigures bytesIn sampleInput sampleOutput twice statementOf formBytes valuesBytes settledBytes settlementBytes formOf bodyOf keyedAt fieldAt markAt wordAt wordFrom numberAt numberFrom digitsFrom digitOf eventLines readLines eventLineAt readLineAt headAt valuesAt misplacedRead misplaced bookDays eventsOf bookOf valuesOf statementLines refusedLines noticeLine bytesOfLines lineBytes fields field decimal digitsIn
 figures-hold = refl

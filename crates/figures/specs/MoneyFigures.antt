@@ -3,17 +3,12 @@
 use Prim.Native.Nat.{ℕ}
 use mathlib.Core.List.{List, [], _∷_, map}
 use Rattle.laws.specs.Answer.{Answer, given}
-use Rattle.money.specs.Lines.{centsAt}
-use Rattle.money.specs.Settlement.{settlement, written}
+use Rattle.money.specs.Cents.{centsAt}
+use Rattle.credit.specs.Settlement.{settlement, written}
 use Rattle.money.specs.Worth.{roundedWorth}
-use Rattle.money.specs.declared.lines.Event.{Event}
-use Rattle.money.specs.declared.settlement.Settlement.{Settlement}
+use Rattle.credit.specs.declared.call.Settlement.{Settlement}
 use Rattle.figures.specs.EnergyFigures.{sampleBook, sampleList}
 use Rattle.figures.specs.Figure.{Figure, figure}
-
--- an event of some energy
-abbrev pub spares : ℕ → Event
-spares energy = record { code = 0; place = 0; energy = energy }
 
 -- what a settlement answers, as numbers
 abbrev pub numbersOf : Settlement → Answer
@@ -22,7 +17,7 @@ numbersOf s = given (s .number ∷ s .place ∷ s .energy ∷ s .cents ∷ [])
 unfoldable pub moneyFigures : List Figure
 moneyFigures =
     -- "P Three lines of 180 at p = 50,000: cents 1, 0, 1."
-    figure (given (1 ∷ 0 ∷ 1 ∷ [])) (given (map (centsAt 50000 (λ (k : ℕ). spares 180)) (0 ∷ 1 ∷ 2 ∷ [])))
+    figure (given (1 ∷ 0 ∷ 1 ∷ [])) (given (map (centsAt 50000 (λ (k : ℕ). 180)) (0 ∷ 1 ∷ 2 ∷ [])))
     -- "P Energy 128,520 at 50,000: 357 (document 004's sample bill)."
     ∷ figure (given (357 ∷ [])) (given (roundedWorth 50000 128520 ∷ []))
     -- the sample's line; "Numbers past the last line are untouched."

@@ -7,5 +7,6 @@ pub mod Refusals
 pub mod RowLaws
 pub mod Same
 pub mod Stores
+pub mod SumLaws
 pub mod Tables
 pub mod Walks

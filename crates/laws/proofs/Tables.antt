@@ -10,6 +10,7 @@ use lib.Dec.{eqb}
 use lib.ListN.{getD}
 use borrow.Author.Tests.{eqb-true, not-false}
 use Rattle.laws.specs.Answer.{Answer, refuse}
+use Rattle.laws.specs.Bounds.{largestNumber, largestPlace}
 use Rattle.laws.specs.Table.{accepted, refusalAt, Row, row, toldBy, firstOf, isRefusal}
 use Rattle.laws.proofs.Every.{Every, right}
 use Rattle.laws.proofs.Refusals.{refused, kept}
@@ -123,28 +124,26 @@ unfolding firstOf
 part-alike [] more other e = e
 part-alike (r ∷ rows) more other e = rw (part-alike rows more other e)
 
--- bounds: numbers up to m, places up to p
+-- number and place of an answer, and those of all rows of a table, are bounded
+abbrev pub Bounded : Answer → Type 0
+Bounded a = (a .number ≤ largestNumber) × (getD (a .values) 0 0 ≤ largestPlace)
 
-abbrev pub Within : ℕ → ℕ → Answer → Type 0
-Within m p a = (a .number ≤ m) × (getD (a .values) 0 0 ≤ p)
+abbrev pub RowsBounded : List Row → Type 0
+RowsBounded = Every (λ (r : Row). (r .number ≤ largestNumber) × (r .place ≤ largestPlace))
 
-abbrev pub Bounded : ℕ → ℕ → List Row → Type 0
-Bounded m p = Every (λ (r : Row). (r .number ≤ m) × (r .place ≤ p))
+bounded-here : (r : Row) (rest : Answer) → (r .number ≤ largestNumber) × (r .place ≤ largestPlace)
+    → (b : Bool) → r .broken ≡ b → (r .broken ≡ false → Bounded rest) → Bounded (refuse b (toldBy r) rest)
+unfolding refuse
+bounded-here r rest h true q g = h
+bounded-here r rest h false q g = g q
 
-module _ (m p : ℕ) where
-  within-here : (r : Row) (rest : Answer) → (r .number ≤ m) × (r .place ≤ p)
-      → (b : Bool) → r .broken ≡ b → (r .broken ≡ false → Within m p rest) → Within m p (refuse b (toldBy r) rest)
-  unfolding refuse
-  within-here r rest h true q g = h
-  within-here r rest h false q g = g q
+-- a first part that is bounded, and a second that is where the first is kept
+pub bounded-parts : (rows more : List Row) → RowsBounded rows → (NoneBroken rows → Bounded (firstOf more)) → Bounded (firstOf (rows ++ more))
+unfolding firstOf
+bounded-parts [] more e g = g tt
+bounded-parts (r ∷ rows) more e g = bounded-here r (firstOf (rows ++ more)) (e .0) (r .broken) refl (λ q. bounded-parts rows more (e .1) (λ t. g (q, t)))
 
-  -- a first part within bounds, and a second that is where the first is kept
-  pub within-parts : (rows more : List Row) → Bounded m p rows → (NoneBroken rows → Within m p (firstOf more)) → Within m p (firstOf (rows ++ more))
-  unfolding firstOf
-  within-parts [] more e g = g tt
-  within-parts (r ∷ rows) more e g = within-here r (firstOf (rows ++ more)) (e .0) (r .broken) refl (λ q. within-parts rows more (e .1) (λ t. g (q, t)))
-
-  pub within-first : (rows : List Row) → Bounded m p rows → Within m p (firstOf rows)
-  unfolding firstOf
-  within-first [] e = (omega arith, omega arith)
-  within-first (r ∷ rows) e = within-here r (firstOf rows) (e .0) (r .broken) refl (λ q. within-first rows (e .1))
+pub bounded-first : (rows : List Row) → RowsBounded rows → Bounded (firstOf rows)
+unfolding firstOf
+bounded-first [] e = (omega arith, omega arith)
+bounded-first (r ∷ rows) e = bounded-here r (firstOf rows) (e .0) (r .broken) refl (λ q. bounded-first rows (e .1))

@@ -1,3 +1,5 @@
 pub mod Answer
+pub mod Bounds
 pub mod Rows
+pub mod Sums
 pub mod Table

@@ -1,7 +1,3 @@
-pub mod Demands
-pub mod Exact
-pub mod LineLaws
-pub mod RefusalLaws
-pub mod Runs
-pub mod SettlementLaws
 pub mod WorthLaws
+pub mod PriceLaws
+pub mod CentLaws

@@ -5,7 +5,8 @@ use Prim.Native.Nat.{ℕ, _+_, _-_, _*_, _≤_, _<_}
 use mathlib.Core.Path.{_≡_, refl}
 use native.Mathlib.Nat.{add-mul, zero-mul, mul-le-mul}
 use native.Mathlib.Omega.{arith}
-use Rattle.money.specs.Worth.{centParts, exactWorth, roundedWorth}
+use Rattle.money.specs.Price.{highestPrice}
+use Rattle.money.specs.Worth.{centParts, exactWorth, roundedWorth, mostEnergy}
 
 -- c cents are the nearest to the exact worth, halves up: at most half a cent above it, and less than half a cent below
 abbrev pub Nearest : ℕ → ℕ → ℕ → Type 0
@@ -43,7 +44,6 @@ between-near p s e = rw add-mul (record { above = omega arith; below = omega ari
 pub first-near : (p e : ℕ) → NearHalf (centParts * roundedWorth p e) (exactWorth p e) centParts
 first-near p e = let n = worth-nearest p e in record { above = n .0; below = omega arith }
 
--- no overflow: 100 events of at most 1,500,000,000 eighteenths of a Wh at the highest price stay below 2 ^ 58, before and after halves
--- are added
-pub worth-fits : (p e : ℕ) → p ≤ 1000000 → e ≤ 150000000000 → exactWorth p e ≤ 150000000000000000
+-- no overflow: the most energy at the highest price stays below 2 ^ 58, before and after halves are added
+pub worth-fits : (p e : ℕ) → p ≤ highestPrice → e ≤ mostEnergy → exactWorth p e ≤ 150000000000000000
 worth-fits p e hp he = omega (arith, mul-le-mul he hp)

@@ -1,5 +1,3 @@
+pub mod Price
 pub mod Worth
-pub mod Refusals
-pub mod Lines
-pub mod Settlement
-pub mod Printed
+pub mod Cents

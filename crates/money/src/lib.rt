@@ -1,9 +1,6 @@
-// The settlement of a winter: what each event's spared energy is worth, in cents.
-mod lines;
-mod refusals;
-mod settlement;
+// Money over energies: the price, and what energy is worth in cents.
+mod price;
 mod worth;
 
-pub use refusals::call_refusal;
-pub use settlement::Settlement;
-pub use settlement::settle;
+pub use price::bad_price;
+pub use worth::worth_of;

@@ -2,7 +2,7 @@
 -- Assumes nothing.
 use Prim.Native.Nat.{ℕ}
 use mathlib.Core.List.{List, [], _∷_}
-use Rattle.money.specs.Printed.{codeIn, placeIn, energyIn, centsIn}
+use Rattle.credit.specs.Printed.{codeIn, placeIn, energyIn, centsIn}
 use Rattle.notices.specs.declared.notices.Notice.{Notice}
 use Rattle.numerals.specs.Lines.{Line, line}
 use Rattle.printing.specs.declared.lines.Settled.{Settled}

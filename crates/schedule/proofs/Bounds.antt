@@ -9,7 +9,8 @@ use lib.ListN.{length}
 use Rattle.calendar.specs.WinterOf.{winterOf}
 use Rattle.dates.specs.Winters.{noWinter}
 use Rattle.laws.proofs.RowLaws.{all-rows}
-use Rattle.laws.proofs.Tables.{Within, Bounded, within-first, within-parts, part-alike, row-stops}
+use Rattle.laws.proofs.Tables.{Bounded, RowsBounded, bounded-first, bounded-parts, part-alike, row-stops}
+use Rattle.laws.specs.Bounds.{largestNumber, largestPlace}
 use Rattle.laws.specs.Table.{Row, row, firstOf}
 use Rattle.notices.specs.Notices.{countOf}
 use Rattle.notices.specs.Profiles.{named}
@@ -20,28 +21,27 @@ use Rattle.schedule.specs.declared.verdicts.Verdict.{Verdict}
 use Rattle.schedule.proofs.Walk.{list-fits}
 
 module _ (w : ℕ) (f : Figures) (l : List ℕ) where
-  row-bounds : (k : ℕ) → k ≤ 100 → Bounded 18 100 (rowsAt (winterOf w) f l k)
+  row-bounded : (k : ℕ) → k ≤ largestPlace → RowsBounded (rowsAt (winterOf w) f l k)
   unfolding rowsAt noticeRows ownRows listRows
-  row-bounds k h = omega arith
+  row-bounded k h = omega arith
 
-  pub notices-within : badList (length l) ≡ false → Within 18 100 (firstOf (noticesTable (winterOf w) f l))
-  notices-within b =
+  pub notices-bounded : badList (length l) ≡ false → Bounded (firstOf (noticesTable (winterOf w) f l))
+  notices-bounded b =
       let few = list-fits (length l) b .few in
-      within-first 18 100 (noticesTable (winterOf w) f l)
-      (all-rows (λ (r : Row). (r .number ≤ 18) × (r .place ≤ 100)) (rowsAt (winterOf w) f l) (countOf l) (λ k h. row-bounds k (omega arith)))
+      bounded-first (noticesTable (winterOf w) f l)
+      (all-rows (λ (r : Row). (r .number ≤ largestNumber) × (r .place ≤ largestPlace)) (rowsAt (winterOf w) f l) (countOf l) (λ k h. row-bounded k (omega arith)))
 
--- no number is above 18, and no place above 100
-pub check-within : (w : ℕ) (l : List ℕ) (q : ℕ) → Within 18 100 (checkAnswer w q l)
+pub check-bounded : (w : ℕ) (l : List ℕ) (q : ℕ) → Bounded (checkAnswer w q l)
 unfolding checkAnswer checkTable
-check-within w l q =
+check-bounded w l q =
     let f = namedFigures (named q) in
-    within-parts 18 100
+    bounded-parts
     (row 1 0 (noWinter w) ∷ row 5 0 (noProfile (named q)) ∷ row 4 0 (badList (length l)) ∷ []) (noticesTable (winterOf w) f l) (omega arith)
-    (λ t. notices-within w f l (t .1 .1 .0))
+    (λ t. notices-bounded w f l (t .1 .1 .0))
 
 -- the same of a verdict
-pub verdict-within : (w q : ℕ) (l : List ℕ) (v : Verdict) → verdictPaper v ≡ checkAnswer w q l → (numberOf v ≤ 18) × (placeOf v ≤ 100)
-verdict-within w q l v e = subst (Within 18 100) (sym e) (check-within w l q)
+pub verdict-bounded : (w q : ℕ) (l : List ℕ) (v : Verdict) → verdictPaper v ≡ checkAnswer w q l → (numberOf v ≤ largestNumber) × (placeOf v ≤ largestPlace)
+verdict-bounded w q l v e = subst Bounded (sym e) (check-bounded w l q)
 
 -- two lists that number 4 refuses get the same answer, whatever they hold
 pub bad-lists-alike : (w q : ℕ) (l m : List ℕ) → badList (length l) ≡ true → badList (length m) ≡ true → checkAnswer w q l ≡ checkAnswer w q m

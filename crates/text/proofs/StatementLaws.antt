@@ -20,12 +20,13 @@ use Rattle.form.specs.declared.whole.Form.the-variants as form
 use Rattle.form.specs.declared.whole.Shape.{Shape}
 use Rattle.laws.proofs.Stores.{sets-whole, take-replicate}
 use Rattle.laws.specs.Table.{refusalAt, firstOf, isRefusal}
-use Rattle.money.proofs.RefusalLaws.{call-right}
-use Rattle.money.proofs.SettlementLaws.{call-refused, written-just}
-use Rattle.money.specs.Lines.{eventAt, linesTo}
-use Rattle.money.specs.Refusals.{callRows}
-use Rattle.money.specs.Settlement.{refusedWith, settlement, written}
-use Rattle.money.specs.declared.settlement.Settlement.{Settlement}
+use Rattle.credit.proofs.RefusalLaws.{call-right}
+use Rattle.credit.proofs.SettlementLaws.{call-refused, written-just}
+use Rattle.credit.specs.Lines.{linesTo}
+use Rattle.settlement.specs.Events.{eventAt}
+use Rattle.credit.specs.Refusals.{callRows}
+use Rattle.credit.specs.Settlement.{refusedWith, settlement, written}
+use Rattle.credit.specs.declared.call.Settlement.{Settlement}
 use Rattle.notices.specs.Notices.{noticeNumbers, mostNotices, countIn, countOf}
 use Rattle.printing.proofs.RoomLaws.{can-print, all-printed}
 use Rattle.printing.specs.Room.{cannotPrint, printed, printedCount}

@@ -23,10 +23,11 @@ use Rattle.form.specs.Places.{bookDays}
 use Rattle.form.specs.declared.whole.Form.{Form}
 use Rattle.form.specs.declared.whole.Form.the-variants as form
 use Rattle.laws.specs.Answer.{given}
-use Rattle.money.proofs.Demands.{run-within-a-cent, first-run-within-half, cents-add-up, energies-add-up, line-is-answer}
+use Rattle.credit.proofs.Demands.{run-within-a-cent, first-run-within-half, cents-add-up, energies-add-up, line-is-answer}
 use Rattle.money.proofs.WorthLaws.{Near, NearHalf}
-use Rattle.money.specs.Printed.{codeIn, placeIn, energyIn, centsIn, runOf}
-use Rattle.money.specs.Settlement.{settlement, written}
+use Rattle.credit.specs.Printed.{codeIn, placeIn, energyIn, centsIn}
+use Rattle.laws.specs.Sums.{runOf}
+use Rattle.credit.specs.Settlement.{settlement, written}
 use Rattle.money.specs.Worth.{centParts, exactWorth}
 use Rattle.notices.specs.Notices.{countOf, noticeAt}
 use Rattle.numerals.specs.Numbers.{numbersIn, numbersOfLines}

@@ -12,8 +12,8 @@ use Rattle.form.specs.Form.{formOf}
 use Rattle.form.specs.Said.{eventsOf, bookOf}
 use Rattle.form.specs.declared.whole.Form.{Form}
 use Rattle.form.specs.declared.whole.Form.the-variants as form
-use Rattle.money.specs.Settlement.{settlement, written}
-use Rattle.money.specs.declared.settlement.Settlement.{Settlement}
+use Rattle.credit.specs.Settlement.{settlement, written}
+use Rattle.credit.specs.declared.call.Settlement.{Settlement}
 use Rattle.notices.specs.Notices.{countOf}
 use Rattle.printing.specs.Sheet.{refusedBytes, statementBytes}
 

@@ -30,7 +30,7 @@ fn print_settled(
     ensures { λ r. ⌜ r ≡ length (settledBytes winter (now (book .entry)) price (now (list .entry))) ⌝ }
     ensures { λ _. ⌜ now (out .exit) ≡ startsWith (settledBytes winter (now (book .entry)) price (now (list .entry))) (now (out .entry)) ⌝ }
 {
-    let s = money::settle(winter, book, price, list, lines);
+    let s = credit::settle(winter, book, price, list, lines);
     let number = s.number;
     let place = s.place;
     if number != 0 {
@@ -71,7 +71,7 @@ pub(crate) fn print_notices(text: &[u8], shape: Shape, book: &[u32], out: &mut [
 {
     let events = shape.events as usize;
     if notices::MOST_NOTICES < events {
-        let number = money::call_refusal(
+        let number = credit::call_refusal(
             shape.winter,
             book.len(),
             shape.price,

@@ -2,7 +2,7 @@
 -- Assumes nothing.
 use mathlib.Core.Path.{ap, _∙_}
 use borrow.Author.Needs.{needs}
-use Rattle.schedule.proofs.Bounds.{verdict-within}
+use Rattle.schedule.proofs.Bounds.{verdict-bounded}
 use Rattle.schedule.specs.ListCheck.{checkAnswer}
 use Rattle.boundary.specs.Calls.{packedAnswer, checkCall}
 use Rattle.boundary.proofs.LentLaws.{read-checks}
@@ -18,7 +18,7 @@ check-requires c κs = search needs
 pack-verdict-requires : tie.Need-pack-verdict-requires
 pack-verdict-requires c κs =
     let a = c .before .before .before .before .before .before .before .before .args in
-    verdict-within (a .winter) (a .profile) _ (c .check .result) (c .check .ensures)
+    verdict-bounded (a .winter) (a .profile) _ (c .check .result) (c .check .ensures)
 
 same-length : tie.Need-same-length
 same-length c = search needs

@@ -3,7 +3,7 @@
 use mathlib.Core.Path.{_∙_}
 use native.Mathlib.Omega.{arith}
 use borrow.Author.Needs.{needs}
-use Rattle.money.proofs.RefusalLaws.{call-within}
+use Rattle.credit.proofs.RefusalLaws.{call-bounded}
 use Rattle.boundary.proofs.SettleLaws.{refused-call, refused-bytes, right-call, whole-call, whole-bytes}
 use Rattle.boundary.proofs.settle_call.settle_bytes.Statement.{statement}
 use Rattle.boundary.proofs.settle_call.settle_bytes.Tie as tie
@@ -18,7 +18,7 @@ call-refusal-requires : tie.Need-call-refusal-requires
 call-refusal-requires c κs = search needs
 
 pack-requires : tie.Need-pack-requires
-pack-requires c κs = (call-within _ _ _ _ _ _ (c .before .call-refusal .ensures), omega arith)
+pack-requires c κs = (call-bounded _ _ _ _ _ _ (c .before .call-refusal .ensures), omega arith)
 
 returns : tie.Need-returns
 returns c =

@@ -3,7 +3,7 @@
 use mathlib.Core.Path.{_∙_}
 use native.Mathlib.Omega.{arith}
 use borrow.Author.Needs.{needs}
-use Rattle.boundary.proofs.SettleLaws.{just-call, just-within, just-refused, just-accepted, just-written}
+use Rattle.boundary.proofs.SettleLaws.{just-call, just-bounded, just-refused, just-accepted, just-written}
 use Rattle.boundary.proofs.settle_call.settle_numbers.Statement.{statement}
 use Rattle.boundary.proofs.settle_call.settle_numbers.Tie as tie
 
@@ -14,7 +14,7 @@ pack-requires : tie.Need-pack-requires
 pack-requires c κs =
     let t = c .before .before .before in
     let s = t .before .before .before .before .before .before in
-    let within = just-within _ _ _ _ (s .args .lines .now) (s .pre .0) _ (t .settle .ensures .0) in
+    let within = just-bounded _ _ _ _ (s .args .lines .now) (s .pre .0) _ (t .settle .ensures .0) in
     (omega (arith, within .0), omega (arith, within .1))
 
 same-length : tie.Need-same-length

@@ -5,12 +5,13 @@ use mir.Syntax.{w64}
 use mir.Val.{Fits}
 use native.Mathlib.Omega.{arith}
 use borrow.Author.Needs.{needs}
-use Rattle.money.specs.Worth.{roundedWorth}
+use Rattle.money.specs.Price.{highestPrice}
+use Rattle.money.specs.Worth.{roundedWorth, mostEnergy}
 use Rattle.money.proofs.WorthLaws.{worth-fits}
 use Rattle.money.proofs.worth.rounded_worth.Statement.{statement}
 use Rattle.money.proofs.worth.rounded_worth.Tie as tie
 
-module _ (e p : ℕ) (he : e ≤ 150000000000) (hp : p ≤ 1000000) where
+module _ (e p : ℕ) (he : e ≤ mostEnergy) (hp : p ≤ highestPrice) where
   product-fits : Fits w64 (e * p)
   product-fits = omega (arith, worth-fits p e hp he)
 

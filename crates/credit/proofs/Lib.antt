@@ -1,0 +1,5 @@
+pub mod Demands
+pub mod Exact
+pub mod LineLaws
+pub mod RefusalLaws
+pub mod SettlementLaws

@@ -1,0 +1,177 @@
+-- Laws of the refusals, one for each way out: what each guard refuses with the days that the calendar gave, and what is known of a call
+-- that is not refused.
+-- Assumes nothing.
+use Prim.Native.Nat.{ℕ, _*_, _%_, _≤_}
+use mathlib.Core.Bool.{true, false, not}
+use mathlib.Core.List.{List, _++_}
+use mathlib.Core.Path.{_≡_, refl, sym, ap, subst, _∙_}
+use native.Mathlib.Omega.{arith}
+use lib.Dec.{eqb}
+use lib.ListN.{length}
+use borrow.Author.Tests.{eq-eqb, ne-eqb, eqb-true, ltb-false, le-ltb, not-false}
+use Rattle.dates.proofs.Promise.{winter-range, is-winter, winter-count}
+use Rattle.dates.specs.Answers.{daysPaper, winterDays}
+use Rattle.dates.specs.Winters.{noWinter, days}
+use Rattle.dates.specs.declared.answers.Days.the-variants.{Are}
+use Rattle.dates.specs.declared.answers.Days.{Days}
+use Rattle.calendar.specs.WinterOf.{winterOf}
+use Rattle.laws.proofs.Every.{left, right, joined}
+use Rattle.laws.proofs.Tables.{Numbered, NoneBroken, row-stops, row-goes, rows-end, unrefused-none, none-accepted, part-stops, part-goes, Bounded, RowsBounded,
+  bounded-first, bounded-parts}
+use Rattle.laws.specs.Bounds.{largestNumber}
+use Rattle.laws.specs.Table.{refusalAt, Row, firstOf, isRefusal}
+use Rattle.money.proofs.PriceLaws.{RightPrice, right-price, price-right}
+use Rattle.money.specs.Price.{badPrice}
+use Rattle.notices.specs.Notices.{noticeNumbers, mostNotices, countIn, countOf}
+use Rattle.notices.specs.Profiles.{figuresOf}
+use Rattle.notices.specs.declared.profiles.Profile.the-variants.{Credit}
+use Rattle.schedule.proofs.Accepted.{Lawful, whole-test, notices-lawful, lawful-notices}
+use Rattle.schedule.proofs.Bounds.{notices-bounded}
+use Rattle.schedule.proofs.RuleLaws.{checked-notices}
+use Rattle.schedule.proofs.Walk.{list-fits, notices-numbered}
+use Rattle.schedule.specs.ListCheck.{noticesTable, badList, checkedIn}
+use Rattle.credit.specs.Lines.{lineWidth}
+use Rattle.credit.specs.Refusals.{badBook, shortOutput, callRows, settlementTable, refusalOf}
+use Rattle.credit.specs.Settlement.{Fits}
+
+module _ (w readings p numbers room : ℕ) where
+  pub winter-refused : noWinter w ≡ true → refusalAt 1 0 ≡ firstOf (callRows w readings p numbers room)
+  unfolding callRows
+  winter-refused e = row-stops _ _ e
+
+  module _ (r : Days) (count : ℕ) (q : r ≡ Are count) (e : daysPaper r ≡ winterDays w) where
+    pub book-refused : (readings ≡ 24 * count → ⊥) → refusalAt 2 0 ≡ firstOf (callRows w readings p numbers room)
+    unfolding callRows badBook
+    book-refused f =
+        let wrong : not (eqb readings (24 * days w)) ≡ true = rw (ne-eqb readings (24 * days w) (λ (x : readings ≡ 24 * days w). f (omega (arith, winter-count w count r q e)))) in
+        row-goes _ _ (is-winter w count r q e) (row-stops _ _ wrong)
+
+    module _ (b : readings ≡ 24 * count) where
+      right-book : badBook w readings ≡ false
+      unfolding badBook
+      right-book = rw (eq-eqb readings (24 * days w) (omega (arith, winter-count w count r q e)))
+
+      pub price-refused : badPrice p ≡ true → refusalAt 3 0 ≡ firstOf (callRows w readings p numbers room)
+      unfolding callRows
+      price-refused f = row-goes _ _ (is-winter w count r q e) (row-goes _ _ right-book (row-stops _ _ f))
+
+      module _ (m : badPrice p ≡ false) where
+        pub list-refused : badList numbers ≡ true → refusalAt 4 0 ≡ firstOf (callRows w readings p numbers room)
+        unfolding callRows
+        list-refused f = row-goes _ _ (is-winter w count r q e) (row-goes _ _ right-book (row-goes _ _ m (row-stops _ _ f)))
+
+        module _ (l : badList numbers ≡ false) where
+          pub output-refused : shortOutput numbers room ≡ true → refusalAt 6 0 ≡ firstOf (callRows w readings p numbers room)
+          unfolding callRows
+          output-refused f = row-goes _ _ (is-winter w count r q e) (row-goes _ _ right-book (row-goes _ _ m (row-goes _ _ l (row-stops _ _ f))))
+
+          pub none-refused : shortOutput numbers room ≡ false → refusalAt 0 0 ≡ firstOf (callRows w readings p numbers room)
+          unfolding callRows
+          none-refused f = row-goes _ _ (is-winter w count r q e) (row-goes _ _ right-book (row-goes _ _ m (row-goes _ _ l (row-goes _ _ f rows-end))))
+
+-- what holds of a call that is not refused
+pub record RightCall (w readings p numbers room : ℕ) : Type 0 where
+  pub winter : (2010 ≤ w) × (w ≤ 2098)
+  pub book : readings ≡ 24 * days w
+  pub price : RightPrice p
+  pub whole : numbers % noticeNumbers ≡ 0
+  pub few : countIn numbers ≤ mostNotices
+  pub room-for : lineWidth * countIn numbers ≤ room
+
+pub right-fits : {w readings p numbers room : ℕ} → RightCall w readings p numbers room → Fits p (countIn numbers) room
+right-fits {p = p} r = record { room-for = r .room-for; few = r .few; price = price-right p (r .price) }
+
+call-numbered : (w readings p numbers room : ℕ) → Numbered (callRows w readings p numbers room)
+unfolding callRows
+call-numbered w readings p numbers room = omega arith
+
+none-right : (w readings p numbers room : ℕ) → NoneBroken (callRows w readings p numbers room) → RightCall w readings p numbers room
+unfolding callRows badBook shortOutput
+none-right w readings p numbers room none =
+    record {
+      winter = winter-range w .0 (none .0);
+      book = eqb-true readings (24 * days w) (not-false _ (none .1 .0));
+      price = right-price p (none .1 .1 .0);
+      whole = list-fits numbers (none .1 .1 .1 .0) .whole;
+      few = list-fits numbers (none .1 .1 .1 .0) .few;
+      room-for = ltb-false room (lineWidth * countIn numbers) (none .1 .1 .1 .1 .0);
+    }
+
+right-none : (w readings p numbers room : ℕ) → RightCall w readings p numbers room → NoneBroken (callRows w readings p numbers room)
+unfolding callRows badBook shortOutput
+right-none w readings p numbers room s =
+    let book : not (eqb readings (24 * days w)) ≡ false = rw (eq-eqb readings (24 * days w) (s .book)) refl in
+    (winter-range w .1 (s .winter), (book, (price-right p (s .price), (whole-test numbers (s .whole) (s .few), (le-ltb room (lineWidth * countIn numbers) (s .room-for), tt)))))
+
+pub call-right : (w readings p numbers room : ℕ) → isRefusal (firstOf (callRows w readings p numbers room)) ≡ false → RightCall w readings p numbers room
+call-right w readings p numbers room e =
+    none-right w readings p numbers room (unrefused-none (callRows w readings p numbers room) (call-numbered w readings p numbers room) e)
+
+module _ (w readings p : ℕ) (l : List ℕ) (room : ℕ) where
+  abbrev call : List Row
+  call = callRows w readings p (length l) room
+
+  abbrev notices : List Row
+  notices = noticesTable (winterOf w) (figuresOf Credit) l
+
+  -- a call's refusal decides, else that of the notices
+  module _ (number : ℕ) (e : refusalAt number 0 ≡ firstOf call) where
+    pub refusal-call : (number ≡ 0 → ⊥) → refusalAt number 0 ≡ refusalOf w readings p l room
+    unfolding refusalOf settlementTable
+    refusal-call f = e ∙ part-stops call notices (rw (← e, ne-eqb number 0 f))
+
+    pub call-is-right : number ≡ 0 → RightCall w readings p (length l) room
+    call-is-right z = call-right w readings p (length l) room (rw (← e, z))
+
+    -- in a winter, by its facts
+    pub refusal-notices : number ≡ 0 → checkedIn (winterOf w) Credit l ≡ refusalOf w readings p l room
+    unfolding refusalOf settlementTable
+    refusal-notices z =
+        let right = call-is-right z in
+        checked-notices w Credit l (whole-test (length l) (right .whole) (right .few)) ∙ part-goes call notices (right-none w readings p (length l) room right)
+
+  -- a settlement that is not refused: the call is right, and the list keeps every rule of the winter credit
+  module _ (e : isRefusal (refusalOf w readings p l room) ≡ false) where
+    none-broken : NoneBroken (call ++ notices)
+    unfolding refusalOf settlementTable
+    none-broken =
+        let numbered = joined (λ (r : Row). 1 ≤ r .number) call notices (call-numbered w readings p (length l) room) (notices-numbered (winterOf w) (figuresOf Credit) l) in
+        unrefused-none (call ++ notices) numbered e
+
+    pub settlement-right : RightCall w readings p (length l) room
+    settlement-right = none-right w readings p (length l) room (left (λ (r : Row). r .broken ≡ false) call notices none-broken)
+
+    pub list-lawful : Lawful w (figuresOf Credit) l
+    list-lawful =
+        let s = settlement-right in
+        notices-lawful w (figuresOf Credit) l (winter-range w .1 (s .winter)) (whole-test (length l) (s .whole) (s .few))
+        (right (λ (r : Row). r .broken ≡ false) call notices none-broken)
+
+  -- and the other way round
+  pub right-accepted : RightCall w readings p (length l) room → Lawful w (figuresOf Credit) l → isRefusal (refusalOf w readings p l room) ≡ false
+  unfolding refusalOf settlementTable
+  right-accepted s r =
+      ap isRefusal
+      (none-accepted (call ++ notices)
+      (joined (λ (r : Row). r .broken ≡ false) call notices (right-none w readings p (length l) room s) (lawful-notices w (figuresOf Credit) l r)))
+
+-- numbers and places are bounded
+rows-bounded : (w readings p numbers room : ℕ) → RowsBounded (callRows w readings p numbers room)
+unfolding callRows
+rows-bounded w readings p numbers room = omega arith
+
+pub call-bounded : (w readings p numbers room number : ℕ) → refusalAt number 0 ≡ firstOf (callRows w readings p numbers room) → number ≤ largestNumber
+call-bounded w readings p numbers room number e =
+    subst Bounded (sym e) (bounded-first (callRows w readings p numbers room) (rows-bounded w readings p numbers room)) .0
+
+pub refusal-bounded : (w readings p : ℕ) (l : List ℕ) (room : ℕ) → Bounded (refusalOf w readings p l room)
+unfolding refusalOf settlementTable
+refusal-bounded w readings p l room =
+    bounded-parts (call w readings p l room) (notices w readings p l room) (rows-bounded w readings p (length l) room)
+    (λ none. let s = none-right w readings p (length l) room none in
+    notices-bounded w (figuresOf Credit) l (whole-test (length l) (s .whole) (s .few)))
+
+-- of the output's length only its room for the lines counts
+pub refusal-room : (w readings p : ℕ) (l : List ℕ) (a b : ℕ) → lineWidth * countOf l ≤ a → lineWidth * countOf l ≤ b → refusalOf w readings p l a ≡ refusalOf w readings p l b
+unfolding refusalOf settlementTable callRows shortOutput
+refusal-room w readings p l a b ha hb = rw (le-ltb a (lineWidth * countOf l) ha, le-ltb b (lineWidth * countOf l) hb)

@@ -1,0 +1,19 @@
+-- The lines of a settlement: four numbers a notice.
+-- Assumes nothing.
+use Prim.Native.Nat.{ℕ}
+use mathlib.Core.List.{List, [], _∷_}
+use Rattle.laws.specs.Rows.{rowsTo}
+use Rattle.money.specs.Cents.{centsAt}
+use Rattle.settlement.specs.Events.{energyAt}
+use Rattle.settlement.specs.declared.events.Event.{Event}
+
+abbrev pub lineWidth : ℕ
+lineWidth = 4
+
+-- "Each notice fills four 64-bit numbers of the output: code, place, energy, cents."
+unfoldable pub lineAt : ℕ → (ℕ → Event) → ℕ → List ℕ
+lineAt p events k = events k .code ∷ events k .place ∷ events k .energy ∷ centsAt p (energyAt events) k ∷ []
+
+-- the first k lines
+abbrev pub linesTo : ℕ → (ℕ → Event) → ℕ → List ℕ
+linesTo p events = rowsTo (lineAt p events)

@@ -1,0 +1,43 @@
+-- The refusals of a settlement.
+-- "Order: .. settlement 1, 2, 3, 4, 6, then the notices under profile 1".
+-- Assumes nothing.
+use Prim.Native.Nat.{ℕ, _*_}
+use mathlib.Core.Bool.{Bool, not}
+use mathlib.Core.List.{List, [], _∷_, _++_}
+use lib.Dec.{ltb, eqb}
+use lib.ListN.{length}
+use Rattle.calendar.specs.WinterOf.{winterOf}
+use Rattle.dates.specs.Winters.{noWinter, days}
+use Rattle.laws.specs.Answer.{Answer}
+use Rattle.laws.specs.Table.{Row, row, firstOf}
+use Rattle.money.specs.Price.{badPrice}
+use Rattle.notices.specs.Notices.{countIn}
+use Rattle.notices.specs.Profiles.{figuresOf}
+use Rattle.notices.specs.declared.profiles.Profile.the-variants.{Credit}
+use Rattle.schedule.specs.ListCheck.{noticesTable, badList}
+use Rattle.credit.specs.Lines.{lineWidth}
+
+-- "2: book length is not 24N"
+unfoldable pub badBook : ℕ → ℕ → Bool
+badBook w readings = not (eqb readings (24 * days w))
+
+-- "6: output has fewer than 4 numbers a notice", by how many numbers the list has
+unfoldable pub shortOutput : ℕ → ℕ → Bool
+shortOutput numbers room = ltb room (lineWidth * countIn numbers)
+
+-- by winter and price, and by how many numbers the book, the list and the output have
+unfoldable pub callRows : ℕ → ℕ → ℕ → ℕ → ℕ → List Row
+callRows w readings p numbers room =
+    row 1 0 (noWinter w)
+    ∷ row 2 0 (badBook w readings)
+    ∷ row 3 0 (badPrice p)
+    ∷ row 4 0 (badList numbers)
+    ∷ row 6 0 (shortOutput numbers room)
+    ∷ []
+
+-- the whole table, and the first row of it that is broken; no reading is looked at
+unfoldable pub settlementTable : ℕ → ℕ → ℕ → List ℕ → ℕ → List Row
+settlementTable w readings p l room = callRows w readings p (length l) room ++ noticesTable (winterOf w) (figuresOf Credit) l
+
+unfoldable pub refusalOf : ℕ → ℕ → ℕ → List ℕ → ℕ → Answer
+refusalOf w readings p l room = firstOf (settlementTable w readings p l room)

@@ -1,0 +1,12 @@
+-- The price of energy, in thousandths of a cent per kWh.
+-- Assumes nothing.
+use Prim.Native.Nat.{ℕ}
+use mathlib.Core.Bool.{Bool, _||_}
+use lib.Dec.{ltb}
+
+abbrev pub highestPrice : ℕ
+highestPrice = 1000000
+
+-- "3: price outside 1..1,000,000"
+unfoldable pub badPrice : ℕ → Bool
+badPrice p = ltb p 1 || ltb highestPrice p
