@@ -11,6 +11,7 @@ use lib.ListN.{length, replicate, length-replicate}
 use borrow.Author.Tests.{eq-eqb, eqb-true}
 use Rattle.dates.proofs.Promise.{days-two}
 use Rattle.dates.specs.Winters.{days}
+use Rattle.credit.specs.Lines.{lineWidth}
 use Rattle.credit.proofs.RefusalLaws.{RightCall}
 use Rattle.schedule.proofs.Bounds.{bad-lists-alike, one-is-bad}
 use Rattle.schedule.proofs.Walk.{list-fits}
@@ -78,7 +79,7 @@ read-checks w profile list numbers e = by (badList (numberCount (length list))) 
 pub record RightLengths (book list out : ℕ) : Type 0 where
   pub book-whole : book % 4 ≡ 0
   pub list-whole : list % 4 ≡ 0
-  pub lines-fit : 4 * (list / 4 / 3) ≤ out / 8
+  pub lines-fit : lineWidth * (list / 4 / 3) ≤ out / 8
   pub lengths : Lengths book list out
 
 pub right-lengths : (w p book list out : ℕ) → RightCall w (numberCount book) p (numberCount list) (out / 8) → RightLengths book list out
@@ -89,7 +90,7 @@ right-lengths w p book list out s =
     let whole = s .whole in
     let b = whole-numbers book (omega arith) in
     let l = whole-numbers list (omega arith) in
-    let room : 4 * (list / 4 / 3) ≤ out / 8 = rw (← l .count) (s .room-for) in
+    let room : lineWidth * (list / 4 / 3) ≤ out / 8 = rw (← l .count) (s .room-for) in
     record {
       book-whole = b .none-over;
       list-whole = l .none-over;

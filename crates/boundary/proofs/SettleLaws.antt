@@ -11,7 +11,7 @@ use Rattle.laws.specs.Bounds.{largestNumber, largestPlace}
 use Rattle.laws.specs.Table.{refusalAt, firstOf}
 use Rattle.credit.proofs.RefusalLaws.{call-right}
 use Rattle.credit.proofs.SettlementLaws.{number-is, settled-accepted, settlement-bounded, call-refused, settled-room, written-just}
-use Rattle.credit.specs.Lines.{linesTo}
+use Rattle.credit.specs.Lines.{lineWidth, linesTo}
 use Rattle.settlement.specs.Events.{eventAt}
 use Rattle.credit.specs.Refusals.{callRows}
 use Rattle.credit.specs.Settlement.{refusedWith, settlement, written}
@@ -22,7 +22,7 @@ use Rattle.wire.proofs.WriteLaws.{written-whole}
 use Rattle.wire.specs.Bytes.{numbersRead, bytesWritten}
 use Rattle.boundary.specs.Calls.{packed, packedSettlement, linesOver, settledOver, settleCall, settleBytes}
 use Rattle.boundary.specs.Lent.{numberCount, decoded}
-use Rattle.boundary.specs.Whole.{wholeNumbers, wholeCall, wholeBytes}
+use Rattle.boundary.specs.Whole.{JustRoom, wholeNumbers, wholeCall, wholeBytes, Settles}
 use Rattle.boundary.proofs.LentLaws.{RightLengths, decoded-long, decoded-whole, right-lengths}
 
 -- what was read with just the room for it
@@ -52,8 +52,8 @@ module _ (bytes room x : List ℕ) (fits : length bytes / 4 ≤ length room) (re
   front-count = sym (ap length front-is ∙ whole-long bytes)
 
 -- just the room for the lines of a list of n numbers, at the front of longer room
-pub lines-room : (room : List ℕ) (n long : ℕ) → n ≡ long → 4 * (n / 3) ≤ length room → length (take (4 * (n / 3)) room) ≡ 4 * (long / 3)
-lines-room room n long e h = length-take-le (4 * (n / 3)) room h ∙ rw e
+pub lines-room : (room : List ℕ) (n long : ℕ) → n ≡ long → lineWidth * (n / 3) ≤ length room → length (take (lineWidth * (n / 3)) room) ≡ lineWidth * (long / 3)
+lines-room room n long e h = length-take-le (lineWidth * (n / 3)) room h ∙ rw e
 
 -- the call's refusal: number 0, or refused by winter, price or lengths
 module _ (w p : ℕ) (book list out : List ℕ) (readings numbers number : ℕ) (b : readings ≡ numberCount (length book)) (l : numbers ≡ numberCount (length list))
@@ -61,64 +61,77 @@ module _ (w p : ℕ) (book list out : List ℕ) (readings numbers number : ℕ) 
   refusal-is : (number ≡ 0 → ⊥) → refusedWith number 0 ≡ settlement w (decoded book) p (decoded list) (length out / 8)
   refusal-is f = call-refused w p (decoded book) (decoded list) (length out / 8) number (rw (decoded-long book, decoded-long list, ← b, ← l) e) f
 
-  pub refused-call : (number ≡ 0 → ⊥) → packed number 0 ≡ settleCall w book p list (length out)
+  refused-call : (number ≡ 0 → ⊥) → packed number 0 ≡ settleCall w book p list (length out)
   unfolding settleCall
   refused-call f = ap packedSettlement (refusal-is f)
 
-  pub refused-bytes : (number ≡ 0 → ⊥) → out ≡ settleBytes w book p list out
+  refused-bytes : (number ≡ 0 → ⊥) → out ≡ settleBytes w book p list out
   unfolding settleBytes settledOver
   refused-bytes f = rw (← refusal-is f, ne-eqb number 0 f)
+
+  pub refused-settles : (number ≡ 0 → ⊥) → (packed number 0 ≡ settleCall w book p list (length out)) × (out ≡ settleBytes w book p list out)
+  refused-settles f = (refused-call f, refused-bytes f)
 
   pub right-call : number ≡ 0 → RightLengths (length book) (length list) (length out)
   right-call z = right-lengths w p (length book) (length list) (length out) (rw (← b, ← l) (call-right w readings p numbers (length out / 8) (rw (← e, z))))
 
 -- on bytes of the right lengths it is the settlement of their whole numbers
 module _ (w p : ℕ) (book list out : List ℕ) (r : RightLengths (length book) (length list) (length out)) where
-  room-is : settlement w (wholeNumbers book) p (wholeNumbers list) (4 * countOf (wholeNumbers list)) ≡ settlement w (decoded book) p (decoded list) (length out / 8)
+  room-is : settlement w (wholeNumbers book) p (wholeNumbers list) (lineWidth * countOf (wholeNumbers list)) ≡ settlement w (decoded book) p (decoded list) (length out / 8)
   unfolding wholeNumbers
   room-is =
       rw (decoded-whole book (r .book-whole), decoded-whole list (r .list-whole))
-      (settled-room w p (wholeNumbers book) (wholeNumbers list) (4 * countOf (wholeNumbers list)) (length out / 8) (omega arith)
+      (settled-room w p (wholeNumbers book) (wholeNumbers list) (lineWidth * countOf (wholeNumbers list)) (length out / 8) (omega arith)
       (rw (whole-long list) (r .lines-fit)))
 
-  pub whole-call : wholeCall w (wholeNumbers book) p (wholeNumbers list) ≡ settleCall w book p list (length out)
+  whole-call : wholeCall w (wholeNumbers book) p (wholeNumbers list) ≡ settleCall w book p list (length out)
   unfolding wholeCall settleCall
   whole-call = ap packedSettlement room-is
 
-  pub whole-bytes : wholeBytes w (wholeNumbers book) p (wholeNumbers list) out ≡ settleBytes w book p list out
+  whole-bytes : wholeBytes w (wholeNumbers book) p (wholeNumbers list) out ≡ settleBytes w book p list out
   unfolding wholeBytes settleBytes settledOver wholeNumbers
   whole-bytes = rw (room-is, decoded-whole book (r .book-whole), decoded-whole list (r .list-whole))
 
--- the settlement s of numbers into lines, for which there is just the room
-module _ (w p : ℕ) (book list lines : List ℕ) (j : length lines ≡ 4 * countOf list) (s : Settlement) (e : s ≡ settlement w book p list (length lines)) where
-  just-is : s ≡ settlement w book p list (4 * countOf list)
-  just-is = e ∙ ap (settlement w book p list) j
+  pub whole-settles : {answer : ℕ} {after : List ℕ} → Settles w (wholeNumbers book) p (wholeNumbers list) out answer after
+      → (answer ≡ settleCall w book p list (length out)) × (after ≡ settleBytes w book p list out)
+  whole-settles s = (s .answer-is ∙ whole-call, s .bytes-are ∙ whole-bytes)
 
-  pub just-call : packedSettlement s ≡ wholeCall w book p list
+-- the settlement s of numbers into lines, for which there is just the room
+module _ (w p : ℕ) (book list lines out : List ℕ) (room : JustRoom list (length lines) (length out)) (s : Settlement)
+    (e : s ≡ settlement w book p list (length lines)) where
+  just-is : s ≡ settlement w book p list (lineWidth * countOf list)
+  just-is = e ∙ ap (settlement w book p list) (room .just)
+
+  just-call : packedSettlement s ≡ wholeCall w book p list
   unfolding wholeCall
   just-call = ap packedSettlement just-is
 
   pub just-bounded : (s .number ≤ largestNumber) × (s .place ≤ largestPlace)
   just-bounded = rw e (settlement-bounded w p book list (length lines))
 
-  pub just-refused : (out : List ℕ) → (s .number ≡ 0 → ⊥) → out ≡ wholeBytes w book p list out
+  just-untouched : (s .number ≡ 0 → ⊥) → out ≡ wholeBytes w book p list out
   unfolding wholeBytes settledOver
-  just-refused out f = rw (← just-is, ne-eqb (s .number) 0 f)
+  just-untouched f = rw (← just-is, ne-eqb (s .number) 0 f)
+
+  pub just-refused : {answer : ℕ} → (s .number ≡ 0 → ⊥) → answer ≡ packedSettlement s → Settles w book p list out answer out
+  just-refused f q = record { answer-is = q ∙ just-call; bytes-are = just-untouched f }
 
   module _ (z : s .number ≡ 0) where
     none : settlement w book p list (length lines) .number ≡ 0
     none = ap (λ (s : Settlement). s .number) (sym e) ∙ z
 
-    pub just-accepted : 0 ≡ wholeCall w book p list
+    just-accepted : 0 ≡ wholeCall w book p list
     just-accepted =
         ap packedSettlement (sym (e ∙ settled-accepted w p book list (length lines) (number-is w p book list (length lines) none))) ∙ just-call
 
-    pub just-written : (lines′ out out′ : List ℕ) → lines′ ≡ written w book p list lines → length lines′ ≡ length lines → 8 * length lines ≤ length out
-        → out′ ≡ bytesWritten lines′ out → out′ ≡ wholeBytes w book p list out
-    unfolding wholeBytes settledOver
-    just-written lines′ out out′ l k h o =
-        let are : lines′ ≡ linesTo p (eventAt w book list) (countOf list) = l ∙ written-just w p book list lines j none in
-        let long : length lines′ ≡ 4 * countOf list = k ∙ j in
-        let eight : 8 * length lines′ ≡ 32 * countOf list = omega arith in
-        let over : out′ ≡ linesOver w book p list out = o ∙ written-whole lines′ out (omega arith) ∙ rw (eight, long, are) in
-        rw (← just-is, eq-eqb (s .number) 0 z) over
+    module _ {lines′ out′ : List ℕ} (l : lines′ ≡ written w book p list lines) (k : length lines′ ≡ length lines) (o : out′ ≡ bytesWritten lines′ out) where
+      just-written : out′ ≡ wholeBytes w book p list out
+      unfolding wholeBytes settledOver
+      just-written =
+          let are : lines′ ≡ linesTo p (eventAt w book list) (countOf list) = l ∙ written-just w p book list lines (room .just) none in
+          let long : length lines′ ≡ lineWidth * countOf list = k ∙ room .just in
+          let over : out′ ≡ linesOver w book p list out = o ∙ written-whole lines′ out (omega (arith, room .bytes-fit)) ∙ rw (long, are) in
+          rw (← just-is, eq-eqb (s .number) 0 z) over
+
+      pub just-settled : Settles w book p list out 0 out′
+      just-settled = record { answer-is = just-accepted; bytes-are = just-written }

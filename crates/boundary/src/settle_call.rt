@@ -1,10 +1,8 @@
 // The settlement on bytes. The numbers are held in arrays of its own: the book's, the list's and the lines'.
 ghost use mathlib.Core.Path.{_≡_};
-ghost use Prim.Native.Nat.{_*_, _/_, _≤_};
 ghost use lib.ListN.{length};
-ghost use Rattle.notices.specs.Notices.{countOf};
 ghost use Rattle.boundary.specs.Calls.{settleCall, settleBytes};
-ghost use Rattle.boundary.specs.Whole.{Lengths, wholeNumbers, wholeCall, wholeBytes};
+ghost use Rattle.boundary.specs.Whole.{Lengths, JustRoom, wholeNumbers, Settles};
 use crate::lent::numbers_in;
 use crate::packing::pack;
 
@@ -17,9 +15,8 @@ fn settle_numbers(
     lines: &mut [u64],
     out: &mut [u8],
 ) -> u32
-    requires { ⌜ (length (now lines) ≡ 4 * countOf (now list)) × (8 * length (now lines) ≤ length (now out)) ⌝ }
-    ensures { λ r. ⌜ r ≡ wholeCall winter (now (book .entry)) price (now (list .entry)) ⌝ }
-    ensures { λ _. ⌜ now (out .exit) ≡ wholeBytes winter (now (book .entry)) price (now (list .entry)) (now (out .entry)) ⌝ }
+    requires { ⌜ JustRoom (now list) (length (now lines)) (length (now out)) ⌝ }
+    ensures { λ r. ⌜ Settles winter (now (book .entry)) price (now (list .entry)) (now (out .entry)) r (now (out .exit)) ⌝ }
 {
     let s = credit::settle(winter, book, price, list, lines);
     let number = s.number;
@@ -34,8 +31,7 @@ fn settle_numbers(
 // The same from bytes of the right lengths, with room of its own for the numbers.
 fn settle_whole(winter: u32, book: &[u8], price: u32, list: &[u8], out: &mut [u8]) -> u32
     requires { ⌜ Lengths (length (now book)) (length (now list)) (length (now out)) ⌝ }
-    ensures { λ r. ⌜ r ≡ wholeCall winter (wholeNumbers (now (book .entry))) price (wholeNumbers (now (list .entry))) ⌝ }
-    ensures { λ _. ⌜ now (out .exit) ≡ wholeBytes winter (wholeNumbers (now (book .entry))) price (wholeNumbers (now (list .entry))) (now (out .entry)) ⌝ }
+    ensures { λ r. ⌜ Settles winter (wholeNumbers (now (book .entry))) price (wholeNumbers (now (list .entry))) (now (out .entry)) r (now (out .exit)) ⌝ }
 {
     let mut readings = [0u32; 3648];
     let mut numbers = [0u32; 300];

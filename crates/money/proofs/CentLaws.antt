@@ -1,7 +1,7 @@
 -- Demand 3 over any energies in a row: over a run of them the cents telescope, so that they are the difference of two rounded worths, which
 -- is within a cent of the exact worth of the run, and within half a cent if the run starts at the first.
 -- Assumes nothing.
-use Prim.Native.Nat.{ℕ, suc, _+_, _*_}
+use Prim.Native.Nat.{ℕ, suc, _+_, _-_, _*_}
 use mathlib.Core.Path.{_≡_, refl, _∙_}
 use native.Mathlib.Nat.{zero-add}
 use native.Mathlib.Omega.{arith}
@@ -33,6 +33,11 @@ module _ (p : ℕ) (energyAt : ℕ → ℕ) where
 
   pub first-run-near : (n : ℕ) → NearHalf (centParts * runOf (centsAt p energyAt) 0 n) (exactWorth p (runOf energyAt 0 n)) centParts
   first-run-near n = rw (cents-first n, run-first energyAt n) (first-near p (sumTo energyAt n))
+
+-- what the cents of an energy are
+pub cents-are : (p : ℕ) (energyAt : ℕ → ℕ) (k : ℕ) → roundedWorth p (sumTo energyAt (suc k)) - roundedWorth p (sumTo energyAt k) ≡ centsAt p energyAt k
+unfolding centsAt
+cents-are p energyAt k = refl
 
 -- cents go by the energies that they are of
 pub cents-same : (p : ℕ) (f g : ℕ → ℕ) (k : ℕ) → sumTo f (suc k) ≡ sumTo g (suc k) → sumTo f k ≡ sumTo g k → centsAt p f k ≡ centsAt p g k

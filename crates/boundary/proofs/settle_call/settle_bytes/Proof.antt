@@ -4,7 +4,7 @@ use mathlib.Core.Path.{_∙_}
 use native.Mathlib.Omega.{arith}
 use borrow.Author.Needs.{needs}
 use Rattle.credit.proofs.RefusalLaws.{call-bounded}
-use Rattle.boundary.proofs.SettleLaws.{refused-call, refused-bytes, right-call, whole-call, whole-bytes}
+use Rattle.boundary.proofs.SettleLaws.{refused-settles, right-call, whole-settles}
 use Rattle.boundary.proofs.settle_call.settle_bytes.Statement.{statement}
 use Rattle.boundary.proofs.settle_call.settle_bytes.Tie as tie
 
@@ -22,26 +22,38 @@ pack-requires c κs = (call-bounded _ _ _ _ _ _ (c .before .call-refusal .ensure
 
 returns : tie.Need-returns
 returns c =
-    let n = c .before in
-    let a = n .before .before .before .before .before .before .before .args in
-    (c .pack .ensures ∙ refused-call _ _ (a .book .now) (a .list .now) (a .out .now) _ _ _ (n .before .before .before .numbers-in .ensures) (n .before .before .numbers-in2 .ensures) (n .before .call-refusal .ensures) (n .if1 .taken), refused-bytes _ _ (a .book .now) (a .list .now) (a .out .now) _ _ _ (n .before .before .before .numbers-in .ensures) (n .before .before .numbers-in2 .ensures) (n .before .call-refusal .ensures) (n .if1 .taken))
+    let refused = c .before in
+    let refusal = refused .before in
+    let list = refusal .before in
+    let book = list .before in
+    let start = book .before .before .before .before in
+    let refuses = refused-settles _ _ (start .args .book .now) (start .args .list .now) (start .args .out .now) _ _ _ (book .numbers-in .ensures)
+    (list .numbers-in2 .ensures) (refusal .call-refusal .ensures) (refused .if1 .taken) in
+    (c .pack .ensures ∙ refuses .0, refuses .1)
 
 settle-whole-requires : tie.Need-settle-whole-requires
 settle-whole-requires c κs =
-    let n = c .before in
-    let a = n .before .before .before .before .before .before .before .args in
-    right-call _ _ (a .book .now) (a .list .now) (a .out .now) _ _ _ (n .before .before .before .numbers-in .ensures) (n .before .before .numbers-in2 .ensures) (n .before .call-refusal .ensures) (n .if1 .left) .lengths
+    let refusal = c .before .before in
+    let list = refusal .before in
+    let book = list .before in
+    let start = book .before .before .before .before in
+    right-call _ _ (start .args .book .now) (start .args .list .now) (start .args .out .now) _ _ _ (book .numbers-in .ensures) (list .numbers-in2 .ensures)
+    (refusal .call-refusal .ensures) (c .before .if1 .left) .lengths
 
 same-length : tie.Need-same-length
 same-length c = search needs
 
 returns-2 : tie.Need-returns-2
 returns-2 c =
-    let t = c .before .before in
-    let n = t .before .before in
-    let a = n .before .before .before .before .before .before .before .args in
-    let r = right-call _ _ (a .book .now) (a .list .now) (a .out .now) _ _ _ (n .before .before .before .numbers-in .ensures) (n .before .before .numbers-in2 .ensures) (n .before .call-refusal .ensures) (n .if1 .left) in
-    (t .settle-whole .ensures .0 ∙ whole-call _ _ (a .book .now) (a .list .now) (a .out .now) r, t .settle-whole .ensures .1 ∙ whole-bytes _ _ (a .book .now) (a .list .now) (a .out .now) r)
+    let settled = c .before .before in
+    let accepted = settled .before .before in
+    let refusal = accepted .before in
+    let list = refusal .before in
+    let book = list .before in
+    let start = book .before .before .before .before in
+    let right = right-call _ _ (start .args .book .now) (start .args .list .now) (start .args .out .now) _ _ _ (book .numbers-in .ensures)
+    (list .numbers-in2 .ensures) (refusal .call-refusal .ensures) (accepted .if1 .left) in
+    whole-settles _ _ (start .args .book .now) (start .args .list .now) (start .args .out .now) right (settled .settle-whole .ensures)
 
 pub settle-bytes-spec : {M : Type 1} → statement M
 settle-bytes-spec =

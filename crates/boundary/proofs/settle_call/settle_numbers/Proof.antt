@@ -1,9 +1,8 @@
--- `settle_numbers` writes the bytes of the lines once they are settled.
+-- `settle_numbers` answers a refusal and leaves the output as it was, or writes the bytes of the lines once they are settled.
 -- Assumes nothing.
-use mathlib.Core.Path.{_∙_}
 use native.Mathlib.Omega.{arith}
 use borrow.Author.Needs.{needs}
-use Rattle.boundary.proofs.SettleLaws.{just-call, just-bounded, just-refused, just-accepted, just-written}
+use Rattle.boundary.proofs.SettleLaws.{just-bounded, just-refused, just-settled}
 use Rattle.boundary.proofs.settle_call.settle_numbers.Statement.{statement}
 use Rattle.boundary.proofs.settle_call.settle_numbers.Tie as tie
 
@@ -12,21 +11,20 @@ settle-requires c κs = search needs
 
 pack-requires : tie.Need-pack-requires
 pack-requires c κs =
-    let t = c .before .before .before in
-    let s = t .before .before .before .before .before .before in
-    let within = just-bounded _ _ _ _ (s .args .lines .now) (s .pre .0) _ (t .settle .ensures .0) in
-    (omega (arith, within .0), omega (arith, within .1))
+    let settled = c .before .before .before in
+    let start = settled .before .before .before .before .before .before in
+    let bounded = just-bounded _ _ _ _ (start .args .lines .now) (start .args .out .now) (start .pre) _ (settled .settle .ensures .0) in
+    (omega (arith, bounded .0), omega (arith, bounded .1))
 
 same-length : tie.Need-same-length
 same-length c = search needs
 
 returns : tie.Need-returns
 returns c =
-    let t = c .before .before .before .before in
-    let s = t .before .before .before .before .before .before in (
-      c .pack .ensures ∙ just-call _ _ _ _ (s .args .lines .now) (s .pre .0) _ (t .settle .ensures .0),
-      just-refused _ _ _ _ (s .args .lines .now) (s .pre .0) _ (t .settle .ensures .0) _ (c .before .if1 .taken),
-    )
+    let refused = c .before in
+    let settled = refused .before .before .before in
+    let start = settled .before .before .before .before .before .before in
+    just-refused _ _ _ _ (start .args .lines .now) _ (start .pre) _ (settled .settle .ensures .0) (refused .if1 .taken) (c .pack .ensures)
 
 write-numbers-requires : tie.Need-write-numbers-requires
 write-numbers-requires c κs = search needs
@@ -39,13 +37,12 @@ same-length-3 c = search needs
 
 returns-2 : tie.Need-returns-2
 returns-2 c =
-    let o = c .before .before .write-numbers in
-    let i = c .before .before .before .before .before in
-    let t = i .before .before .before in
-    let s = t .before .before .before .before .before .before in (
-      just-accepted _ _ _ _ (s .args .lines .now) (s .pre .0) _ (t .settle .ensures .0) (i .if1 .left),
-      just-written _ _ _ _ (s .args .lines .now) (s .pre .0) _ (t .settle .ensures .0) (i .if1 .left) _ (s .args .out .now) _ (t .settle .ensures .1) (t .settle .kept .1 .1 .1 .1 .0) (s .pre .1) (o .ensures),
-    )
+    let written = c .before .before in
+    let accepted = written .before .before .before in
+    let settled = accepted .before .before .before in
+    let start = settled .before .before .before .before .before .before in
+    just-settled _ _ _ _ (start .args .lines .now) (start .args .out .now) (start .pre) _ (settled .settle .ensures .0) (accepted .if1 .left)
+    (settled .settle .ensures .1) (settled .settle .kept .1 .1 .1 .1 .0) (written .write-numbers .ensures)
 
 pub settle-numbers-spec : {M : Type 1} → statement M
 settle-numbers-spec =

@@ -1,4 +1,6 @@
-use mathlib.Core.Path.{refl, _∙_}
+-- `settle_whole` has room for the numbers of every book and list of the right lengths: what is read stands at the front of that room, and is
+-- what is settled.
+-- Assumes nothing.
 use native.Mathlib.Omega.{arith}
 use lib.ListN.{length-take}
 use borrow.Author.Needs.{needs}
@@ -61,7 +63,7 @@ settle-numbers-requires : tie.Need-settle-numbers-requires
 settle-numbers-requires c κs =
     let read = c .before .before .before .before .before in
     let count = front-count (read .before .before .before .before .before .before .before .before .args .list .now) _ _ (omega arith) (read .read-numbers2 .ensures) in
-    (lines-room _ _ _ count (omega arith), simp length-take (omega arith))
+    record { just = lines-room _ _ _ count (omega arith); bytes-fit = simp length-take (omega arith) }
 
 same-length : tie.Need-same-length
 same-length c = search needs
@@ -74,7 +76,7 @@ returns c =
     let start = book-read .before .before .before .before .before in
     let book-is = front-is (start .args .book .now) _ _ (omega arith) (book-read .read-numbers .ensures) in
     let list-is = front-is (start .args .list .now) _ _ (omega arith) (list-read .read-numbers2 .ensures) in
-    (settled .settle-numbers .ensures .0 ∙ rw (book-is, list-is) refl, settled .settle-numbers .ensures .1 ∙ rw (book-is, list-is) refl)
+    rw (← book-is, ← list-is) (settled .settle-numbers .ensures)
 
 pub settle-whole-spec : {M : Type 1} → statement M
 settle-whole-spec =

@@ -15,9 +15,9 @@ use Rattle.laws.proofs.RowLaws.{Filled, filled-none, filled-next, filled-all}
 use Rattle.laws.proofs.SumLaws.{sum-none, sum-next}
 use Rattle.laws.specs.Bounds.{largestEnergy}
 use Rattle.laws.specs.Sums.{sumTo}
+use Rattle.money.proofs.CentLaws.{cents-are}
 use Rattle.money.proofs.PriceLaws.{worth-is}
 use Rattle.money.proofs.WorthLaws.{worth-zero, worth-grows}
-use Rattle.money.specs.Cents.{centsAt}
 use Rattle.money.specs.Worth.{roundedWorth, mostEnergy, worthOf}
 use Rattle.settlement.proofs.EventLaws.{energies-bounded}
 use Rattle.settlement.specs.Events.{eventIn, energyAt}
@@ -58,8 +58,8 @@ module _ {p : ℕ} {events : ℕ → Event} {came : List ℕ} {n : ℕ} {out : L
     no-less = rw (rounded, h .worth-of-it, h .energy-is) (worth-grows p (sumTo (energyAt events) k) (e .energy))
 
     line-is : _≡_ {A = List ℕ} (e .code ∷ e .place ∷ e .energy ∷ (w - worth) ∷ []) (lineAt p events k)
-    unfolding lineAt centsAt
-    line-is = rw (q, rounded-more, h .worth-of-it)
+    unfolding lineAt
+    line-is = rw (q, ← cents-are p (energyAt events) k, rounded-more, h .worth-of-it)
 
     -- a turn: the four stores are line k
     carried-next : (out′ : List ℕ) → out′ ≡ sets out (lineWidth * k) (e .code ∷ e .place ∷ e .energy ∷ (w - worth) ∷ [])
