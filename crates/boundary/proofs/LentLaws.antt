@@ -11,8 +11,9 @@ use lib.ListN.{length, replicate, length-replicate}
 use borrow.Author.Tests.{eq-eqb, eqb-true}
 use Rattle.dates.proofs.Promise.{days-two}
 use Rattle.dates.specs.Winters.{days}
-use Rattle.credit.specs.Lines.{lineWidth}
+use Rattle.credit.specs.Lines.{lineNumbers}
 use Rattle.credit.proofs.RefusalLaws.{RightCall}
+use Rattle.notices.specs.Notices.{longestList, countIn}
 use Rattle.schedule.proofs.Bounds.{bad-lists-alike, one-is-bad}
 use Rattle.schedule.proofs.Walk.{list-fits}
 use Rattle.schedule.specs.ListCheck.{badList, checkAnswer}
@@ -56,10 +57,10 @@ room-cases : (n : ℕ) (b : Bool) → badList (numberCount n) ≡ b → listRoom
 unfolding listRoom
 room-cases n b e = rw e
 
-pub room-few : (n : ℕ) → listRoom n ≤ 300
+pub room-few : (n : ℕ) → listRoom n ≤ longestList
 room-few n = by (badList (numberCount n)) refl
   where
-    by : (b : Bool) → badList (numberCount n) ≡ b → listRoom n ≤ 300
+    by : (b : Bool) → badList (numberCount n) ≡ b → listRoom n ≤ longestList
     by true q = omega (arith, room-cases n true q)
     by false q = let f = list-fits (numberCount n) q in omega (arith, room-cases n false q)
 
@@ -79,7 +80,7 @@ read-checks w profile list numbers e = by (badList (numberCount (length list))) 
 pub record RightLengths (book list out : ℕ) : Type 0 where
   pub book-whole : book % 4 ≡ 0
   pub list-whole : list % 4 ≡ 0
-  pub lines-fit : lineWidth * (list / 4 / 3) ≤ out / 8
+  pub lines-fit : lineNumbers * countIn (list / 4) ≤ out / 8
   pub lengths : Lengths book list out
 
 pub right-lengths : (w p book list out : ℕ) → RightCall w (numberCount book) p (numberCount list) (out / 8) → RightLengths book list out
@@ -90,7 +91,7 @@ right-lengths w p book list out s =
     let whole = s .whole in
     let b = whole-numbers book (omega arith) in
     let l = whole-numbers list (omega arith) in
-    let room : lineWidth * (list / 4 / 3) ≤ out / 8 = rw (← l .count) (s .room-for) in
+    let room : lineNumbers * countIn (list / 4) ≤ out / 8 = rw (← l .count) (s .room-for) in
     record {
       book-whole = b .none-over;
       list-whole = l .none-over;

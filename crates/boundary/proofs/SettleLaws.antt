@@ -11,12 +11,12 @@ use Rattle.laws.specs.Bounds.{largestNumber, largestPlace}
 use Rattle.laws.specs.Table.{refusalAt, firstOf}
 use Rattle.credit.proofs.RefusalLaws.{call-right}
 use Rattle.credit.proofs.SettlementLaws.{number-is, settled-accepted, settlement-bounded, call-refused, settled-room, written-just}
-use Rattle.credit.specs.Lines.{lineWidth, linesTo}
+use Rattle.credit.specs.Lines.{lineNumbers, linesTo}
 use Rattle.settlement.specs.Events.{eventAt}
 use Rattle.credit.specs.Refusals.{callRows}
 use Rattle.credit.specs.Settlement.{refusedWith, settlement, written}
 use Rattle.credit.specs.declared.call.Settlement.{Settlement}
-use Rattle.notices.specs.Notices.{countOf}
+use Rattle.notices.specs.Notices.{countIn, countOf}
 use Rattle.wire.proofs.ReadLaws.{numbers-long, read-whole, read-long}
 use Rattle.wire.proofs.WriteLaws.{written-whole}
 use Rattle.wire.specs.Bytes.{numbersRead, bytesWritten}
@@ -52,8 +52,9 @@ module _ (bytes room x : List ℕ) (fits : length bytes / 4 ≤ length room) (re
   front-count = sym (ap length front-is ∙ whole-long bytes)
 
 -- just the room for the lines of a list of n numbers, at the front of longer room
-pub lines-room : (room : List ℕ) (n long : ℕ) → n ≡ long → lineWidth * (n / 3) ≤ length room → length (take (lineWidth * (n / 3)) room) ≡ lineWidth * (long / 3)
-lines-room room n long e h = length-take-le (lineWidth * (n / 3)) room h ∙ rw e
+pub lines-room : (room : List ℕ) (n long lines : ℕ) → n ≡ long → lines ≡ countIn n → lineNumbers * lines ≤ length room
+    → length (take (lineNumbers * lines) room) ≡ lineNumbers * countIn long
+lines-room room n long lines e q h = length-take-le (lineNumbers * lines) room h ∙ rw (q, e)
 
 -- the call's refusal: number 0, or refused by winter, price or lengths
 module _ (w p : ℕ) (book list out : List ℕ) (readings numbers number : ℕ) (b : readings ≡ numberCount (length book)) (l : numbers ≡ numberCount (length list))
@@ -77,11 +78,11 @@ module _ (w p : ℕ) (book list out : List ℕ) (readings numbers number : ℕ) 
 
 -- on bytes of the right lengths it is the settlement of their whole numbers
 module _ (w p : ℕ) (book list out : List ℕ) (r : RightLengths (length book) (length list) (length out)) where
-  room-is : settlement w (wholeNumbers book) p (wholeNumbers list) (lineWidth * countOf (wholeNumbers list)) ≡ settlement w (decoded book) p (decoded list) (length out / 8)
+  room-is : settlement w (wholeNumbers book) p (wholeNumbers list) (lineNumbers * countOf (wholeNumbers list)) ≡ settlement w (decoded book) p (decoded list) (length out / 8)
   unfolding wholeNumbers
   room-is =
       rw (decoded-whole book (r .book-whole), decoded-whole list (r .list-whole))
-      (settled-room w p (wholeNumbers book) (wholeNumbers list) (lineWidth * countOf (wholeNumbers list)) (length out / 8) (omega arith)
+      (settled-room w p (wholeNumbers book) (wholeNumbers list) (lineNumbers * countOf (wholeNumbers list)) (length out / 8) (omega arith)
       (rw (whole-long list) (r .lines-fit)))
 
   whole-call : wholeCall w (wholeNumbers book) p (wholeNumbers list) ≡ settleCall w book p list (length out)
@@ -99,7 +100,7 @@ module _ (w p : ℕ) (book list out : List ℕ) (r : RightLengths (length book) 
 -- the settlement s of numbers into lines, for which there is just the room
 module _ (w p : ℕ) (book list lines out : List ℕ) (room : JustRoom list (length lines) (length out)) (s : Settlement)
     (e : s ≡ settlement w book p list (length lines)) where
-  just-is : s ≡ settlement w book p list (lineWidth * countOf list)
+  just-is : s ≡ settlement w book p list (lineNumbers * countOf list)
   just-is = e ∙ ap (settlement w book p list) (room .just)
 
   just-call : packedSettlement s ≡ wholeCall w book p list
@@ -129,7 +130,7 @@ module _ (w p : ℕ) (book list lines out : List ℕ) (room : JustRoom list (len
       unfolding wholeBytes settledOver
       just-written =
           let are : lines′ ≡ linesTo p (eventAt w book list) (countOf list) = l ∙ written-just w p book list lines (room .just) none in
-          let long : length lines′ ≡ lineWidth * countOf list = k ∙ room .just in
+          let long : length lines′ ≡ lineNumbers * countOf list = k ∙ room .just in
           let over : out′ ≡ linesOver w book p list out = o ∙ written-whole lines′ out (omega (arith, room .bytes-fit)) ∙ rw (long, are) in
           rw (← just-is, eq-eqb (s .number) 0 z) over
 

@@ -6,7 +6,7 @@ use mathlib.Core.List.{List, _++_}
 use lib.Dec.{eqb}
 use lib.ListN.{length, getD, drop}
 use Rattle.laws.specs.Answer.{Answer}
-use Rattle.credit.specs.Lines.{lineWidth, linesTo}
+use Rattle.credit.specs.Lines.{lineNumbers, linesTo}
 use Rattle.settlement.specs.Events.{eventAt}
 use Rattle.credit.specs.Settlement.{settlement}
 use Rattle.credit.specs.declared.call.Settlement.{Settlement}
@@ -31,7 +31,7 @@ checkCall w profile list = packedAnswer (checkAnswer w profile (decoded list))
 
 -- an output once its lines are there: the bytes of the lines, and then its own
 abbrev pub linesOver : ℕ → List ℕ → ℕ → List ℕ → List ℕ → List ℕ
-linesOver w book p list out = bytesTo (linesTo p (eventAt w book list) (countOf list)) (lineWidth * countOf list) ++ drop (8 * (lineWidth * countOf list)) out
+linesOver w book p list out = bytesTo (linesTo p (eventAt w book list) (countOf list)) (lineNumbers * countOf list) ++ drop (8 * (lineNumbers * countOf list)) out
 
 -- the settlement of numbers, its lines put over the bytes of an output, which has room for so many numbers
 unfoldable pub settledOver : ℕ → List ℕ → ℕ → List ℕ → ℕ → List ℕ → List ℕ

@@ -34,11 +34,11 @@ fn settle_whole(winter: u32, book: &[u8], price: u32, list: &[u8], out: &mut [u8
     ensures { λ r. ⌜ Settles winter (wholeNumbers (now (book .entry))) price (wholeNumbers (now (list .entry))) (now (out .entry)) r (now (out .exit)) ⌝ }
 {
     let mut readings = [0u32; 3648];
-    let mut numbers = [0u32; 300];
-    let mut lines = [0u64; 400];
+    let mut numbers = [0u32; notices::LONGEST_LIST];
+    let mut lines = [0u64; credit::MOST_LINE_NUMBERS];
     let hours = book.len() / 4;
     let count = list.len() / 4;
-    let room = 4 * (count / 3);
+    let room = credit::LINE_NUMBERS * notices::count_in(count);
     wire::read_numbers(book, &mut readings[..hours]);
     wire::read_numbers(list, &mut numbers[..count]);
     settle_numbers(

@@ -24,7 +24,7 @@ use Rattle.laws.proofs.RowLaws.{rows-long}
 use Rattle.settlement.proofs.EventLaws.{event-line}
 use Rattle.settlement.specs.Events.{eventAt, energyAt}
 use Rattle.settlement.specs.declared.events.Event.{Event}
-use Rattle.credit.specs.Lines.{lineWidth, linesTo}
+use Rattle.credit.specs.Lines.{lineNumbers, linesTo}
 use Rattle.credit.specs.Printed.{codeIn, placeIn, energyIn, centsIn}
 use Rattle.credit.specs.Refusals.{refusalOf}
 use Rattle.credit.specs.Settlement.{settlement, linesIn, written}
@@ -49,10 +49,10 @@ module _ (w p : ℕ) (book l out : List ℕ) (ok : settlement w book p l (length
   output-is = written-accepted w p book l out none
 
   energies : (k : ℕ) → k < n → energyIn output k ≡ events k .energy
-  energies k h = rw output-is (energy-is p events (drop (lineWidth * n) out) n k h)
+  energies k h = rw output-is (energy-is p events (drop (lineNumbers * n) out) n k h)
 
   cents : (k : ℕ) → k < n → centsIn output k ≡ centsAt p (energyAt events) k
-  cents k h = rw output-is (cents-is p events (drop (lineWidth * n) out) n k h)
+  cents k h = rw output-is (cents-is p events (drop (lineNumbers * n) out) n k h)
 
   energy-run-is : (i k : ℕ) → i + k ≤ n → runOf (energyIn output) i k ≡ runOf (energyAt events) i k
   energy-run-is i k h = run-same (energyIn output) (energyAt events) i k (λ j b. energies j (omega arith))
@@ -86,9 +86,9 @@ module _ (w p : ℕ) (book l out : List ℕ) (ok : settlement w book p l (length
   line-is-answer k h =
       let s = settlement-right w (length book) p l (length out) none in
       let r = list-lawful w (length book) p l (length out) none in
-      let rest = drop (lineWidth * n) out in
+      let rest = drop (lineNumbers * n) out in
       event-line w book l k (s .book) (r .each k h) ∙ rw (output-is, code-is p events rest n k h, place-is p events rest n k h, energy-is p events rest n k h)
 
   -- "Numbers past the last line are untouched."
-  pub past-untouched : drop (lineWidth * n) output ≡ drop (lineWidth * n) out
-  past-untouched = rw output-is (drop-at (linesTo p events n) (drop (lineWidth * n) out) (lineWidth * n) (rows-long (line-wide p events) n))
+  pub past-untouched : drop (lineNumbers * n) output ≡ drop (lineNumbers * n) out
+  past-untouched = rw output-is (drop-at (linesTo p events n) (drop (lineNumbers * n) out) (lineNumbers * n) (rows-long (line-wide p events) n))

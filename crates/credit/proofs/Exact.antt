@@ -15,7 +15,7 @@ use Rattle.notices.specs.Notices.{countOf}
 use Rattle.notices.specs.Profiles.{figuresOf}
 use Rattle.notices.specs.declared.profiles.Profile.the-variants.{Credit}
 use Rattle.schedule.proofs.Accepted.{Lawful}
-use Rattle.credit.specs.Lines.{lineWidth}
+use Rattle.credit.specs.Lines.{lineNumbers}
 use Rattle.credit.specs.Refusals.{settlementTable, refusalOf}
 use Rattle.credit.specs.Settlement.{refusedWith, settlement, written}
 use Rattle.credit.proofs.RefusalLaws.{RightCall, settlement-right, list-lawful, right-accepted}
@@ -26,7 +26,7 @@ pub record Settles (w readings p : ℕ) (l : List ℕ) (room : ℕ) : Type 0 whe
   pub book : readings ≡ 24 * days w
   pub price : RightPrice p
   pub list : Lawful w (figuresOf Credit) l
-  pub room-for : lineWidth * countOf l ≤ room
+  pub room-for : lineNumbers * countOf l ≤ room
 
 pub accepted-iff-settles : (w p : ℕ) (book l : List ℕ) (room : ℕ) → (settlement w book p l room .number ≡ 0) ↔ Settles w (length book) p l room
 accepted-iff-settles w p book l room = (

@@ -15,7 +15,7 @@ use Rattle.money.specs.Worth.{mostEnergy}
 use Rattle.notices.specs.Notices.{mostNotices}
 use Rattle.settlement.specs.Events.{energyAt}
 use Rattle.settlement.specs.declared.events.Event.{Event}
-use Rattle.credit.specs.Lines.{lineWidth, lineAt, linesTo}
+use Rattle.credit.specs.Lines.{lineNumbers, lineAt, linesTo}
 use Rattle.credit.specs.Printed.{codeIn, placeIn, energyIn, centsIn}
 
 -- sums and lines go by the events that they are of
@@ -36,7 +36,7 @@ pub total-few : (events : ℕ → Event) → ((k : ℕ) → energyAt events k �
 total-few events bounded n h = le-trans (sum-bound (energyAt events) largestEnergy bounded n) (mul-le-mul-right largestEnergy h)
 
 module _ (p : ℕ) (events : ℕ → Event) where
-  pub line-wide : Wide lineWidth (lineAt p events)
+  pub line-wide : Wide lineNumbers (lineAt p events)
   unfolding lineAt
   line-wide = record { long = λ k. refl }
 
@@ -44,7 +44,7 @@ module _ (p : ℕ) (events : ℕ → Event) where
   module _ (rest : List ℕ) (n k : ℕ) (h : k < n) where
     pub code-is : codeIn (linesTo p events n ++ rest) k ≡ events k .code
     unfolding lineAt
-    code-is = rw (← add-zero (lineWidth * k)) (row-in line-wide rest n k 0 h (omega arith))
+    code-is = rw (← add-zero (lineNumbers * k)) (row-in line-wide rest n k 0 h (omega arith))
 
     pub place-is : placeIn (linesTo p events n ++ rest) k ≡ events k .place
     unfolding lineAt

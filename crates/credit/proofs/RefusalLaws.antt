@@ -16,8 +16,21 @@ use Rattle.dates.specs.declared.answers.Days.the-variants.{Are}
 use Rattle.dates.specs.declared.answers.Days.{Days}
 use Rattle.calendar.specs.WinterOf.{winterOf}
 use Rattle.laws.proofs.Every.{left, right, joined}
-use Rattle.laws.proofs.Tables.{Numbered, NoneBroken, row-stops, row-goes, rows-end, unrefused-none, none-accepted, part-stops, part-goes, Bounded, RowsBounded,
-  bounded-first, bounded-parts}
+use Rattle.laws.proofs.Tables.{
+  Numbered,
+  NoneBroken,
+  row-stops,
+  row-goes,
+  rows-end,
+  unrefused-none,
+  none-accepted,
+  part-stops,
+  part-goes,
+  Bounded,
+  RowsBounded,
+  bounded-first,
+  bounded-parts,
+}
 use Rattle.laws.specs.Bounds.{largestNumber}
 use Rattle.laws.specs.Table.{refusalAt, Row, firstOf, isRefusal}
 use Rattle.money.proofs.PriceLaws.{RightPrice, right-price, price-right}
@@ -30,7 +43,7 @@ use Rattle.schedule.proofs.Bounds.{notices-bounded}
 use Rattle.schedule.proofs.RuleLaws.{checked-notices}
 use Rattle.schedule.proofs.Walk.{list-fits, notices-numbered}
 use Rattle.schedule.specs.ListCheck.{noticesTable, badList, checkedIn}
-use Rattle.credit.specs.Lines.{lineWidth}
+use Rattle.credit.specs.Lines.{lineNumbers}
 use Rattle.credit.specs.Refusals.{badBook, shortOutput, callRows, settlementTable, refusalOf}
 use Rattle.credit.specs.Settlement.{Fits}
 
@@ -76,7 +89,7 @@ pub record RightCall (w readings p numbers room : ℕ) : Type 0 where
   pub price : RightPrice p
   pub whole : numbers % noticeNumbers ≡ 0
   pub few : countIn numbers ≤ mostNotices
-  pub room-for : lineWidth * countIn numbers ≤ room
+  pub room-for : lineNumbers * countIn numbers ≤ room
 
 pub right-fits : {w readings p numbers room : ℕ} → RightCall w readings p numbers room → Fits p (countIn numbers) room
 right-fits {p = p} r = record { room-for = r .room-for; few = r .few; price = price-right p (r .price) }
@@ -94,14 +107,14 @@ none-right w readings p numbers room none =
       price = right-price p (none .1 .1 .0);
       whole = list-fits numbers (none .1 .1 .1 .0) .whole;
       few = list-fits numbers (none .1 .1 .1 .0) .few;
-      room-for = ltb-false room (lineWidth * countIn numbers) (none .1 .1 .1 .1 .0);
+      room-for = ltb-false room (lineNumbers * countIn numbers) (none .1 .1 .1 .1 .0);
     }
 
 right-none : (w readings p numbers room : ℕ) → RightCall w readings p numbers room → NoneBroken (callRows w readings p numbers room)
 unfolding callRows badBook shortOutput
 right-none w readings p numbers room s =
     let book : not (eqb readings (24 * days w)) ≡ false = rw (eq-eqb readings (24 * days w) (s .book)) refl in
-    (winter-range w .1 (s .winter), (book, (price-right p (s .price), (whole-test numbers (s .whole) (s .few), (le-ltb room (lineWidth * countIn numbers) (s .room-for), tt)))))
+    (winter-range w .1 (s .winter), (book, (price-right p (s .price), (whole-test numbers (s .whole) (s .few), (le-ltb room (lineNumbers * countIn numbers) (s .room-for), tt)))))
 
 pub call-right : (w readings p numbers room : ℕ) → isRefusal (firstOf (callRows w readings p numbers room)) ≡ false → RightCall w readings p numbers room
 call-right w readings p numbers room e =
@@ -172,6 +185,6 @@ refusal-bounded w readings p l room =
     notices-bounded w (figuresOf Credit) l (whole-test (length l) (s .whole) (s .few)))
 
 -- of the output's length only its room for the lines counts
-pub refusal-room : (w readings p : ℕ) (l : List ℕ) (a b : ℕ) → lineWidth * countOf l ≤ a → lineWidth * countOf l ≤ b → refusalOf w readings p l a ≡ refusalOf w readings p l b
+pub refusal-room : (w readings p : ℕ) (l : List ℕ) (a b : ℕ) → lineNumbers * countOf l ≤ a → lineNumbers * countOf l ≤ b → refusalOf w readings p l a ≡ refusalOf w readings p l b
 unfolding refusalOf settlementTable callRows shortOutput
-refusal-room w readings p l a b ha hb = rw (le-ltb a (lineWidth * countOf l) ha, le-ltb b (lineWidth * countOf l) hb)
+refusal-room w readings p l a b ha hb = rw (le-ltb a (lineNumbers * countOf l) ha, le-ltb b (lineNumbers * countOf l) hb)

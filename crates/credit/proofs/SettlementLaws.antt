@@ -28,7 +28,7 @@ use Rattle.schedule.specs.declared.verdicts.Verdict.{Verdict}
 use Rattle.settlement.proofs.EventLaws.{energies-bounded, same-event}
 use Rattle.settlement.specs.Events.{eventAt, eventIn, energyAt}
 use Rattle.settlement.specs.declared.events.Event.{Event}
-use Rattle.credit.specs.Lines.{lineWidth, linesTo}
+use Rattle.credit.specs.Lines.{lineNumbers, linesTo}
 use Rattle.credit.specs.Refusals.{callRows, refusalOf}
 use Rattle.credit.specs.Settlement.{Fits, refusedWith, totalsOf, linesIn, settledBy, writtenBy, settlement, written}
 use Rattle.credit.specs.declared.call.Settlement.{Settlement}
@@ -155,7 +155,7 @@ module _ (w p : ℕ) (book l : List ℕ) (room : ℕ) where
   call-refused number e f = settled-refused number 0 (refusal-call w (length book) p l room number e f) f
 
   -- of the output's length only its room for the lines counts
-  pub settled-room : (other : ℕ) → lineWidth * countOf l ≤ room → lineWidth * countOf l ≤ other → settlement w book p l room ≡ settlement w book p l other
+  pub settled-room : (other : ℕ) → lineNumbers * countOf l ≤ room → lineNumbers * countOf l ≤ other → settlement w book p l room ≡ settlement w book p l other
   unfolding settlement
   settled-room other h g = rw (refusal-room w (length book) p l room other h g)
 
@@ -169,7 +169,7 @@ module _ (w p : ℕ) (book l out : List ℕ) where
   written-accepted e = rw e
 
   -- an output with just the room for the lines is they
-  pub written-just : length out ≡ lineWidth * countOf l → settlement w book p l (length out) .number ≡ 0 → written w book p l out ≡ linesTo p (eventAt w book l) (countOf l)
+  pub written-just : length out ≡ lineNumbers * countOf l → settlement w book p l (length out) .number ≡ 0 → written w book p l out ≡ linesTo p (eventAt w book l) (countOf l)
   written-just e z =
       written-accepted (number-is w p book l (length out) z)
       ∙ rw (drop-of-length-le out (le-of-eq e)) (append-nil (linesTo p (eventAt w book l) (countOf l)))

@@ -7,8 +7,8 @@ use Rattle.money.specs.Cents.{centsAt}
 use Rattle.settlement.specs.Events.{energyAt}
 use Rattle.settlement.specs.declared.events.Event.{Event}
 
-abbrev pub lineWidth : ℕ
-lineWidth = 4
+abbrev pub lineNumbers : ℕ
+lineNumbers = 4
 
 -- "Each notice fills four 64-bit numbers of the output: code, place, energy, cents."
 unfoldable pub lineAt : ℕ → (ℕ → Event) → ℕ → List ℕ

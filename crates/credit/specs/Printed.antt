@@ -3,17 +3,17 @@
 use Prim.Native.Nat.{ℕ, _+_, _*_}
 use mathlib.Core.List.{List}
 use lib.ListN.{getD}
-use Rattle.credit.specs.Lines.{lineWidth}
+use Rattle.credit.specs.Lines.{lineNumbers}
 
 -- "Each notice fills four 64-bit numbers of the output: code, place, energy, cents."
 abbrev pub codeIn : List ℕ → ℕ → ℕ
-codeIn out k = getD out (lineWidth * k) 0
+codeIn out k = getD out (lineNumbers * k) 0
 
 abbrev pub placeIn : List ℕ → ℕ → ℕ
-placeIn out k = getD out (lineWidth * k + 1) 0
+placeIn out k = getD out (lineNumbers * k + 1) 0
 
 abbrev pub energyIn : List ℕ → ℕ → ℕ
-energyIn out k = getD out (lineWidth * k + 2) 0
+energyIn out k = getD out (lineNumbers * k + 2) 0
 
 abbrev pub centsIn : List ℕ → ℕ → ℕ
-centsIn out k = getD out (lineWidth * k + 3) 0
+centsIn out k = getD out (lineNumbers * k + 3) 0

@@ -15,7 +15,7 @@ use Rattle.notices.specs.Notices.{countIn}
 use Rattle.notices.specs.Profiles.{figuresOf}
 use Rattle.notices.specs.declared.profiles.Profile.the-variants.{Credit}
 use Rattle.schedule.specs.ListCheck.{noticesTable, badList}
-use Rattle.credit.specs.Lines.{lineWidth}
+use Rattle.credit.specs.Lines.{lineNumbers}
 
 -- "2: book length is not 24N"
 unfoldable pub badBook : ℕ → ℕ → Bool
@@ -23,7 +23,7 @@ badBook w readings = not (eqb readings (24 * days w))
 
 -- "6: output has fewer than 4 numbers a notice", by how many numbers the list has
 unfoldable pub shortOutput : ℕ → ℕ → Bool
-shortOutput numbers room = ltb room (lineWidth * countIn numbers)
+shortOutput numbers room = ltb room (lineNumbers * countIn numbers)
 
 -- by winter and price, and by how many numbers the book, the list and the output have
 unfoldable pub callRows : ℕ → ℕ → ℕ → ℕ → ℕ → List Row

@@ -14,7 +14,7 @@ use Rattle.money.specs.Worth.{roundedWorth}
 use Rattle.notices.specs.Notices.{mostNotices, countOf}
 use Rattle.settlement.specs.Events.{eventAt, energyAt}
 use Rattle.settlement.specs.declared.events.Event.{Event}
-use Rattle.credit.specs.Lines.{lineWidth, lineAt}
+use Rattle.credit.specs.Lines.{lineNumbers, lineAt}
 use Rattle.credit.specs.Refusals.{refusalOf}
 use Rattle.credit.specs.declared.call.Settlement.{Settlement}
 
@@ -28,7 +28,7 @@ totalsOf p events n = record { number = 0; place = 0; energy = sumTo (energyAt e
 
 -- "Numbers past the last line are untouched."
 abbrev pub linesIn : ℕ → (ℕ → Event) → ℕ → List ℕ → List ℕ
-linesIn p events n out = rowsOver lineWidth (lineAt p events) n out
+linesIn p events n out = rowsOver lineNumbers (lineAt p events) n out
 
 -- "Whole-call refusals return the number and a place, and write nothing"
 unfoldable pub settledBy : Answer → ℕ → (ℕ → Event) → ℕ → Settlement
@@ -47,6 +47,6 @@ written w book p l out = writtenBy (refusalOf w (length book) p l (length out)) 
 
 -- what the private functions ask: n lines have room, they are few, and the price is right
 pub record Fits (p n room : ℕ) : Type 0 where
-  pub room-for : lineWidth * n ≤ room
+  pub room-for : lineNumbers * n ≤ room
   pub few : n ≤ mostNotices
   pub price : badPrice p ≡ false

@@ -5,4 +5,6 @@ mod refusals;
 
 pub use call::Settlement;
 pub use call::settle;
+pub use lines::LINE_NUMBERS;
+pub use lines::MOST_LINE_NUMBERS;
 pub use refusals::call_refusal;

@@ -6,14 +6,20 @@ ghost use lib.ListN.{length};
 ghost use lib.Seq.{sets};
 ghost use Rattle.laws.specs.Sums.{sumTo};
 ghost use Rattle.settlement.specs.Events.{eventIn, energyAt};
-ghost use Rattle.credit.specs.Lines.{lineWidth};
+ghost use Rattle.credit.specs.Lines.{lineNumbers};
 ghost use Rattle.credit.specs.Settlement.{linesIn, Fits};
 use calendar::Winter;
 use settlement::Event;
 
+// How many numbers a line has: code, place, energy and cents.
+pub const LINE_NUMBERS: usize = 4;
+
+// How many numbers the lines of the longest list have.
+pub const MOST_LINE_NUMBERS: usize = LINE_NUMBERS * notices::MOST_NOTICES;
+
 // Puts an event's code, place and energy and its cents from index `at` on.
 fn put_line(out: &mut [u64], at: usize, event: Event, cents: u64)
-    requires { ⌜ at + lineWidth ≤ length (now out) ⌝ }
+    requires { ⌜ at + lineNumbers ≤ length (now out) ⌝ }
     ensures { λ _. ⌜ now (out .exit) ≡ sets (now (out .entry)) at (event .code ∷ event .place ∷ event .energy ∷ cents ∷ []) ⌝ }
 {
     out[at] = event.code;
@@ -44,7 +50,7 @@ pub(crate) fn put_lines(
         let event = settlement::event_at(w, book, masks, list, k);
         let more = energy + event.energy;
         let next = money::worth_of(price, more);
-        put_line(out, 4 * k, event, next - worth);
+        put_line(out, LINE_NUMBERS * k, event, next - worth);
         energy = more;
         worth = next;
         k += 1;

@@ -2,13 +2,14 @@
 ghost use mathlib.Core.Path.{_≡_};
 ghost use Rattle.laws.specs.Table.{refusalAt, firstOf};
 ghost use Rattle.credit.specs.Refusals.{shortOutput, callRows};
+use crate::lines::LINE_NUMBERS;
 use dates::Days;
 
 // 6: the output has fewer than 4 numbers a notice. Divided on both sides, so that no length is too large.
 fn short_output(numbers: usize, room: usize) -> bool
     ensures { λ r. ⌜ r ≡ shortOutput numbers room ⌝ }
 {
-    room / 4 < notices::count_in(numbers)
+    room / LINE_NUMBERS < notices::count_in(numbers)
 }
 
 // The number by which a settlement is refused whatever its readings and notices are, 0 if it is not: by winter and price, and by how many

@@ -7,13 +7,12 @@ use borrow.Author.Needs.{needs}
 use Rattle.boundary.proofs.SettleLaws.{front-fits, front-is, front-count, lines-room}
 use Rattle.boundary.proofs.settle_call.settle_whole.Statement.{statement}
 use Rattle.boundary.proofs.settle_call.settle_whole.Tie as tie
-use Rattle.boundary.proofs.settle_call.settle_whole.Reads as reads
-use Rattle.boundary.proofs.settle_call.settle_whole.Lts as lts
-use Rattle.boundary.proofs.settle_call.settle_numbers.Reads as settle-numbers-reads
-use Rattle.wire.proofs.read_numbers.Reads as read-numbers-reads
+
+count-in-requires : tie.Need-count-in-requires
+count-in-requires c κs = search needs
 
 mul-room : tie.Need-mul-room
-mul-room c = search needs
+mul-room c = omega (arith, c .count-in .ensures)
 
 array-borrow-prefix-readings : tie.Need-array-borrow-prefix-readings
 array-borrow-prefix-readings c = search needs
@@ -35,23 +34,27 @@ read-numbers-requires-2 c κs = search needs
 
 array-share-prefix-readings : tie.Need-array-share-prefix-readings
 array-share-prefix-readings c =
-    let read = c .before .before .before .before in
-    front-fits (read .before .before .before .before .before .args .book .now) _ _ (omega arith) (read .read-numbers .ensures)
+    let book-read = c .before .before .before .before in
+    let start = book-read .before .before .before .before .before .before in
+    front-fits (start .args .book .now) _ _ (omega arith) (book-read .read-numbers .ensures)
 
 slice-aggregate-settle-numbers : tie.Need-slice-aggregate-settle-numbers
 slice-aggregate-settle-numbers c =
-    let read = c .before .before .before .before .before in
-    front-count (read .before .before .before .before .before .args .book .now) _ _ (omega arith) (read .read-numbers .ensures)
+    let book-read = c .before .before .before .before .before in
+    let start = book-read .before .before .before .before .before .before in
+    front-count (start .args .book .now) _ _ (omega arith) (book-read .read-numbers .ensures)
 
 array-share-prefix-numbers : tie.Need-array-share-prefix-numbers
 array-share-prefix-numbers c =
-    let read = c .before .before in
-    front-fits (read .before .before .before .before .before .before .before .before .args .list .now) _ _ (omega arith) (read .read-numbers2 .ensures)
+    let list-read = c .before .before in
+    let start = list-read .before .before .before .before .before .before .before .before .before in
+    front-fits (start .args .list .now) _ _ (omega arith) (list-read .read-numbers2 .ensures)
 
 slice-aggregate-settle-numbers-2 : tie.Need-slice-aggregate-settle-numbers-2
 slice-aggregate-settle-numbers-2 c =
-    let read = c .before .before .before in
-    front-count (read .before .before .before .before .before .before .before .before .args .list .now) _ _ (omega arith) (read .read-numbers2 .ensures)
+    let list-read = c .before .before .before in
+    let start = list-read .before .before .before .before .before .before .before .before .before in
+    front-count (start .args .list .now) _ _ (omega arith) (list-read .read-numbers2 .ensures)
 
 array-borrow-prefix-lines : tie.Need-array-borrow-prefix-lines
 array-borrow-prefix-lines c = search needs
@@ -61,9 +64,12 @@ slice-aggregate-settle-numbers-3 c = simp length-take (omega arith)
 
 settle-numbers-requires : tie.Need-settle-numbers-requires
 settle-numbers-requires c κs =
-    let read = c .before .before .before .before .before in
-    let count = front-count (read .before .before .before .before .before .before .before .before .args .list .now) _ _ (omega arith) (read .read-numbers2 .ensures) in
-    record { just = lines-room _ _ _ count (omega arith); bytes-fit = simp length-take (omega arith) }
+    let list-read = c .before .before .before .before .before in
+    let counted = list-read .before .before .before .before .before in
+    let start = counted .before .before .before .before in
+    let count = front-count (start .args .list .now) _ _ (omega arith) (list-read .read-numbers2 .ensures) in
+    let lines = counted .count-in .ensures in
+    record { just = lines-room _ _ _ _ count lines (omega (arith, lines)); bytes-fit = simp length-take (omega (arith, lines)) }
 
 same-length : tie.Need-same-length
 same-length c = search needs
@@ -73,7 +79,7 @@ returns c =
     let settled = c .before .before .before in
     let list-read = settled .before .before .before .before .before .before in
     let book-read = list-read .before .before .before in
-    let start = book-read .before .before .before .before .before in
+    let start = book-read .before .before .before .before .before .before in
     let book-is = front-is (start .args .book .now) _ _ (omega arith) (book-read .read-numbers .ensures) in
     let list-is = front-is (start .args .list .now) _ _ (omega arith) (list-read .read-numbers2 .ensures) in
     rw (← book-is, ← list-is) (settled .settle-numbers .ensures)
@@ -82,6 +88,7 @@ pub settle-whole-spec : {M : Type 1} → statement M
 settle-whole-spec =
     tie.close
     (tie.spec
+    count-in-requires
     mul-room
     array-borrow-prefix-readings
     slice-aggregate-read-numbers

@@ -22,7 +22,7 @@ use Rattle.money.specs.Worth.{roundedWorth, mostEnergy, worthOf}
 use Rattle.settlement.proofs.EventLaws.{energies-bounded}
 use Rattle.settlement.specs.Events.{eventIn, energyAt}
 use Rattle.settlement.specs.declared.events.Event.{Event}
-use Rattle.credit.specs.Lines.{lineWidth, lineAt}
+use Rattle.credit.specs.Lines.{lineNumbers, lineAt}
 use Rattle.credit.specs.Settlement.{Fits}
 use Rattle.credit.proofs.LineLaws.{line-wide, total-few}
 use Rattle.credit.proofs.lines.put_lines.Statement.{statement}
@@ -31,7 +31,7 @@ use Rattle.credit.proofs.lines.put_lines.Tie as tie
 record Carried (p : ℕ) (events : ℕ → Event) (came : List ℕ) (n : ℕ) (out : List ℕ) (energy worth k : ℕ) : Type 0 where
   energy-is : energy ≡ sumTo (energyAt events) k
   worth-of-it : worth ≡ roundedWorth p (sumTo (energyAt events) k)
-  filled : Filled lineWidth (lineAt p events) came n out k
+  filled : Filled lineNumbers (lineAt p events) came n out k
 
 carried-none : {p : ℕ} {events : ℕ → Event} {came : List ℕ} {n : ℕ} → Carried p events came n came 0 0 0
 carried-none {p} {events} =
@@ -62,7 +62,7 @@ module _ {p : ℕ} {events : ℕ → Event} {came : List ℕ} {n : ℕ} {out : L
     line-is = rw (q, ← cents-are p (energyAt events) k, rounded-more, h .worth-of-it)
 
     -- a turn: the four stores are line k
-    carried-next : (out′ : List ℕ) → out′ ≡ sets out (lineWidth * k) (e .code ∷ e .place ∷ e .energy ∷ (w - worth) ∷ [])
+    carried-next : (out′ : List ℕ) → out′ ≡ sets out (lineNumbers * k) (e .code ∷ e .place ∷ e .energy ∷ (w - worth) ∷ [])
         → Carried p events came n out′ (energy + e .energy) w (k + 1)
     carried-next out′ stored =
         record {
