@@ -78,7 +78,8 @@ module _ (w p : ℕ) (book list out : List ℕ) (readings numbers number : ℕ) 
 
 -- on bytes of the right lengths it is the settlement of their whole numbers
 module _ (w p : ℕ) (book list out : List ℕ) (r : RightLengths (length book) (length list) (length out)) where
-  room-is : settlement w (wholeNumbers book) p (wholeNumbers list) (lineNumbers * countOf (wholeNumbers list)) ≡ settlement w (decoded book) p (decoded list) (length out / 8)
+  room-is : settlement w (wholeNumbers book) p (wholeNumbers list) (lineNumbers * countOf (wholeNumbers list))
+      ≡ settlement w (decoded book) p (decoded list) (length out / 8)
   unfolding wholeNumbers
   room-is =
       rw (decoded-whole book (r .book-whole), decoded-whole list (r .list-whole))

@@ -31,7 +31,8 @@ checkCall w profile list = packedAnswer (checkAnswer w profile (decoded list))
 
 -- an output once its lines are there: the bytes of the lines, and then its own
 abbrev pub linesOver : ℕ → List ℕ → ℕ → List ℕ → List ℕ → List ℕ
-linesOver w book p list out = bytesTo (linesTo p (eventAt w book list) (countOf list)) (lineNumbers * countOf list) ++ drop (8 * (lineNumbers * countOf list)) out
+linesOver w book p list out =
+    bytesTo (linesTo p (eventAt w book list) (countOf list)) (lineNumbers * countOf list) ++ drop (8 * (lineNumbers * countOf list)) out
 
 -- the settlement of numbers, its lines put over the bytes of an output, which has room for so many numbers
 unfoldable pub settledOver : ℕ → List ℕ → ℕ → List ℕ → ℕ → List ℕ → List ℕ

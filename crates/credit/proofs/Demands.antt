@@ -71,7 +71,9 @@ module _ (w p : ℕ) (book l out : List ℕ) (ok : settlement w book p l (length
   -- "no line is negative": its cents are the whole way from the rounded worth before it to the rounded worth with it, and nothing was cut off
   pub no-line-negative : (k : ℕ) → k < n → roundedWorth p (runOf (energyIn output) 0 k) + centsIn output k ≡ roundedWorth p (runOf (energyIn output) 0 (suc k))
   no-line-negative k h =
-      rw (cents k h, energy-run-is 0 k (omega arith), energy-run-is 0 (suc k) (omega arith), run-first (energyAt events) k, run-first (energyAt events) (suc k)) (cents-next p (energyAt events) k)
+      let before = energy-run-is 0 k (omega arith) ∙ run-first (energyAt events) k in
+      let with-it = energy-run-is 0 (suc k) (omega arith) ∙ run-first (energyAt events) (suc k) in
+      rw (cents k h, before, with-it) (cents-next p (energyAt events) k)
 
   -- "the lines add up to the printed total", in cents and in energy
   pub cents-add-up : runOf (centsIn output) 0 n ≡ settlement w book p l (length out) .cents

@@ -34,7 +34,8 @@ accepted-iff-settles w p book l room = (
       let s = settlement-right w (length book) p l room n in
       record { book = s .book; price = s .price; list = list-lawful w (length book) p l room n; room-for = s .room-for },
   λ s. let r = s .list in
-      let c : RightCall w (length book) p (length l) room = record { winter = r .winter; book = s .book; price = s .price; whole = r .whole; few = r .few; room-for = s .room-for } in
+      let c : RightCall w (length book) p (length l) room =
+      record { winter = r .winter; book = s .book; price = s .price; whole = r .whole; few = r .few; room-for = s .room-for } in
       rw (settled-accepted w p book l room (right-accepted w (length book) p l room c r)) refl,
 )
 

@@ -37,13 +37,15 @@ use Rattle.credit.proofs.RefusalLaws.{refusal-call, refusal-room, refus
 
 -- the totals and the lines, with the masks that the list gave
 module _ (w : Winter) (p : ℕ) (book l masks : List ℕ) (m : masks ≡ masksOf l) where
-  pub totals-are : (energy cents : ℕ) {room : ℕ} → energy ≡ sumTo (energyAt (eventIn w book masks l)) (countOf l) → Fits p (countOf l) room → cents ≡ worthOf p energy
+  pub totals-are : (energy cents : ℕ) {room : ℕ} → energy ≡ sumTo (energyAt (eventIn w book masks l)) (countOf l) → Fits p (countOf l) room
+      → cents ≡ worthOf p energy
       → _≡_ {A = Settlement} (record { number = 0; place = 0; energy = energy; cents = cents }) (totalsOf p (eventIn w book (masksOf l) l) (countOf l))
   totals-are energy cents e fits c =
       let few : energy ≤ mostEnergy = rw e (total-few (eventIn w book masks l) (energies-bounded w book masks l) (countOf l) (fits .few)) in
       rw (c, ← worth-is p energy (fits .price) few, e, m)
 
-  pub lines-are : (out out′ : List ℕ) → out′ ≡ linesIn p (eventIn w book masks l) (countOf l) out → out′ ≡ linesIn p (eventIn w book (masksOf l) l) (countOf l) out
+  pub lines-are : (out out′ : List ℕ) → out′ ≡ linesIn p (eventIn w book masks l) (countOf l) out
+      → out′ ≡ linesIn p (eventIn w book (masksOf l) l) (countOf l) out
   lines-are out out′ e = rw (e, m)
 
 -- a verdict on the notices decides: refused, or settled
@@ -77,7 +79,8 @@ module _ (a : Answer) (p : ℕ) (f g : ℕ → Event) (n : ℕ) (same : isRefusa
   settled-alike = by (isRefusal a) refl
     where
       by : (b : Bool) → isRefusal a ≡ b
-          → cond (isRefusal a) (refusedWith (a .number) (getD (a .values) 0 0)) (totalsOf p f n) ≡ cond (isRefusal a) (refusedWith (a .number) (getD (a .values) 0 0)) (totalsOf p g n)
+          → cond (isRefusal a) (refusedWith (a .number) (getD (a .values) 0 0)) (totalsOf p f n)
+          ≡ cond (isRefusal a) (refusedWith (a .number) (getD (a .values) 0 0)) (totalsOf p g n)
       by true q = rw q
       by false q = rw (q, energy-same f g n (same q))
 
@@ -138,21 +141,16 @@ module _ (w p : ℕ) (book l : List ℕ) (room : ℕ) where
       by true q = rw (settled-by q) (refusal-bounded w (length book) p l room)
       by false q = rw (settled-accepted q) (omega arith, omega arith)
 
-  -- the refusal that was found, as a number and a place
-  module _ (number place : ℕ) (e : refusalAt number place ≡ refusal) where
-    pub is-refused : (number ≡ 0 → ⊥) → isRefusal refusal ≡ true
-    is-refused f = rw (← e, ne-eqb number 0 f)
-
-    pub not-refused : number ≡ 0 → isRefusal refusal ≡ false
-    not-refused z = rw (← e, z)
-
-    pub settled-refused : (number ≡ 0 → ⊥) → refusedWith number place ≡ settlement w book p l room
-    settled-refused f = sym (settled-by (is-refused f) ∙ rw (← e) refl)
-
   -- a call that its winter, price or lengths refuse
-  pub call-refused : (number : ℕ) → refusalAt number 0 ≡ firstOf (callRows w (length book) p (length l) room) → (number ≡ 0 → ⊥)
-      → refusedWith number 0 ≡ settlement w book p l room
-  call-refused number e f = settled-refused number 0 (refusal-call w (length book) p l room number e f) f
+  module _ (number : ℕ) (e : refusalAt number 0 ≡ firstOf (callRows w (length book) p (length l) room)) (f : number ≡ 0 → ⊥) where
+    refusal-is : refusalAt number 0 ≡ refusal
+    refusal-is = refusal-call w (length book) p l room number e f
+
+    pub is-refused : isRefusal refusal ≡ true
+    is-refused = rw (← refusal-is, ne-eqb number 0 f)
+
+    pub call-refused : refusedWith number 0 ≡ settlement w book p l room
+    call-refused = sym (settled-by is-refused ∙ rw (← refusal-is) refl)
 
   -- of the output's length only its room for the lines counts
   pub settled-room : (other : ℕ) → lineNumbers * countOf l ≤ room → lineNumbers * countOf l ≤ other → settlement w book p l room ≡ settlement w book p l other
@@ -164,12 +162,17 @@ module _ (w p : ℕ) (book l out : List ℕ) where
   unfolding written writtenBy
   written-by e = rw e
 
+  pub call-unwritten : (number : ℕ) → refusalAt number 0 ≡ firstOf (callRows w (length book) p (length l) (length out)) → (number ≡ 0 → ⊥)
+      → out ≡ written w book p l out
+  call-unwritten number e f = sym (written-by (is-refused w p book l (length out) number e f))
+
   pub written-accepted : isRefusal (refusalOf w (length book) p l (length out)) ≡ false → written w book p l out ≡ linesIn p (eventAt w book l) (countOf l) out
   unfolding written writtenBy
   written-accepted e = rw e
 
   -- an output with just the room for the lines is they
-  pub written-just : length out ≡ lineNumbers * countOf l → settlement w book p l (length out) .number ≡ 0 → written w book p l out ≡ linesTo p (eventAt w book l) (countOf l)
+  pub written-just : length out ≡ lineNumbers * countOf l → settlement w book p l (length out) .number ≡ 0
+      → written w book p l out ≡ linesTo p (eventAt w book l) (countOf l)
   written-just e z =
       written-accepted (number-is w p book l (length out) z)
       ∙ rw (drop-of-length-le out (le-of-eq e)) (append-nil (linesTo p (eventAt w book l) (countOf l)))

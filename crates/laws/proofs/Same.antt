@@ -33,4 +33,5 @@ pub same-true : (a b : Answer) → T (same a b) → a ≡ b
 same-true a b t =
     let n = eqb (a .number) (b .number) in
     let v = sameValues (a .values) (b .values) in
-    made (a .number) (b .number) (a .values) (b .values) (eqb→eq (a .number) (b .number) (and-left n v t)) (values-true (a .values) (b .values) (and-right n v t))
+    made (a .number) (b .number) (a .values) (b .values) (eqb→eq (a .number) (b .number) (and-left n v t))
+    (values-true (a .values) (b .values) (and-right n v t))

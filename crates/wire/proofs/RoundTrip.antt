@@ -83,7 +83,8 @@ module _ (numbers : List ℕ) (k : ℕ) (fits : getD numbers k 0 < 2 ^ 64) where
   bytes-back (suc n) h =
       rw (rows-more (λ (i : ℕ). eightBytes (getD numbers i 0)) n)
       (⊎-elim
-      (λ (e : k ≡ n). rw (← e) (halves-behind (bytesTo numbers k) (eightBytes (getD numbers k 0)) (8 * k) (bytes-long numbers k) ∙ eight-back (getD numbers k 0) fits))
+      (λ (e : k ≡ n). rw (← e)
+      (halves-behind (bytesTo numbers k) (eightBytes (getD numbers k 0)) (8 * k) (bytes-long numbers k) ∙ eight-back (getD numbers k 0) fits))
       (λ (l : k < n). halves-front (bytesTo numbers n) (eightBytes (getD numbers n 0)) (8 * k) (rw (bytes-long numbers n) (omega arith)) ∙ bytes-back n l)
       (eq-or-lt-of-le (le-of-suc-le-suc h)))
 

@@ -17,8 +17,9 @@ check-requires c κs = search needs
 
 pack-verdict-requires : tie.Need-pack-verdict-requires
 pack-verdict-requires c κs =
-    let a = c .before .before .before .before .before .before .before .before .args in
-    verdict-bounded (a .winter) (a .profile) _ (c .check .result) (c .check .ensures)
+    let read = c .before .before .before .before in
+    let start = read .before .before .before .before in
+    verdict-bounded (start .args .winter) (start .args .profile) _ (c .check .result) (c .check .ensures)
 
 same-length : tie.Need-same-length
 same-length c = search needs
@@ -26,11 +27,14 @@ same-length c = search needs
 returns : tie.Need-returns
 unfolding checkCall
 returns c =
-    let r = c .before .before .before .before .before in
-    let s = r .before .before .before .before in
-    c .pack-verdict .ensures
-    ∙ ap packedAnswer
-    (c .before .check .ensures ∙ ap (checkAnswer (s .args .winter) (s .args .profile)) (r .read-numbers .ensures) ∙ read-checks _ _ (s .args .list .now) (s .args .numbers .now) (s .pre))
+    let checked = c .before in
+    let read = checked .before .before .before .before in
+    let start = read .before .before .before .before in
+    let answer =
+    checked .check .ensures
+    ∙ ap (checkAnswer (start .args .winter) (start .args .profile)) (read .read-numbers .ensures)
+    ∙ read-checks _ _ (start .args .list .now) (start .args .numbers .now) (start .pre) in
+    c .pack-verdict .ensures ∙ ap packedAnswer answer
 
 pub check-in-spec : {M : Type 1} → statement M
 check-in-spec =

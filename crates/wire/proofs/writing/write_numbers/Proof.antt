@@ -46,7 +46,8 @@ loop-again : tie.Need-loop-again Inv-loop μ-loop
 loop-again c =
     let turn = c .before .before .before .before .before in
     let start = turn .before .before .before .before .before in
-    filled-next (turn .before .loop .inv) (eight-wide (start .args .numbers .now)) (omega arith) (turn .loop-test .taken) (c .before .before .put-number .ensures) refl
+    let put = c .before .before in
+    filled-next (turn .before .loop .inv) (eight-wide (start .args .numbers .now)) (omega arith) (turn .loop-test .taken) (put .put-number .ensures) refl
 
 same-length : tie.Need-same-length Inv-loop μ-loop
 same-length c = c .before .loop .inv .size
