@@ -4,6 +4,7 @@ use Prim.Native.Nat.{ℕ, _*_, _/_, _≤_}
 use mathlib.Core.List.{List}
 use mathlib.Core.Path.{_≡_}
 use lib.ListN.{length}
+use Rattle.book.specs.Length.{mostReadings}
 use Rattle.credit.specs.Lines.{lineNumbers}
 use Rattle.credit.specs.Settlement.{settlement}
 use Rattle.notices.specs.Notices.{longestList, countIn, countOf}
@@ -12,7 +13,7 @@ use Rattle.boundary.specs.Calls.{packedSettlement, settledOver}
 
 -- there is room for the numbers, and for the lines in the output
 pub record Lengths (book list out : ℕ) : Type 0 where
-  pub hours : book / 4 ≤ 3648
+  pub hours : book / 4 ≤ mostReadings
   pub notices : list / 4 ≤ longestList
   pub room-for : 8 * (lineNumbers * countIn (list / 4)) ≤ out
 

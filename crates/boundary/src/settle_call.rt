@@ -33,7 +33,7 @@ fn settle_whole(winter: u32, book: &[u8], price: u32, list: &[u8], out: &mut [u8
     requires { ⌜ Lengths (length (now book)) (length (now list)) (length (now out)) ⌝ }
     ensures { λ r. ⌜ Settles winter (wholeNumbers (now (book .entry))) price (wholeNumbers (now (list .entry))) (now (out .entry)) r (now (out .exit)) ⌝ }
 {
-    let mut readings = [0u32; 3648];
+    let mut readings = [0u32; book::MOST_READINGS];
     let mut numbers = [0u32; notices::LONGEST_LIST];
     let mut lines = [0u64; credit::MOST_LINE_NUMBERS];
     let hours = book.len() / 4;

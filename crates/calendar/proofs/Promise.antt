@@ -33,6 +33,10 @@ pub days-few : (w : Winter) → wrongWinter w ≡ false → (151 ≤ w .days) ×
 unfolding wrongWinter
 days-few w e = let p = neither (ltb (w .days) 151) (ltb 152 (w .days)) e in (ltb-false (w .days) 151 (p .0), ltb-false 152 (w .days) (p .1))
 
+pub day-test : (w : Winter) (d : ℕ) → noDay w d ≡ leb (w .days) d
+unfolding noDay
+day-test w d = refl
+
 pub book-day : (w : Winter) (d : ℕ) → noDay w d ≡ false → d < w .days
 unfolding noDay
 book-day w d e = leb-false (w .days) d e

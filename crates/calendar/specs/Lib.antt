@@ -3,5 +3,4 @@ pub mod Weekdays
 pub mod WinterOf
 pub mod Days
 pub mod Excluded
-pub mod Book
 pub mod Answers

@@ -1,7 +1,6 @@
-// The winter calendar: a winter's own facts, the kind of each of its days, weekdays, Easter, and a day's part of a book.
+// The winter calendar: a winter's own facts, the kind of each of its days, weekdays, and Easter.
 // Every call takes any numbers. A winter outside 2010..2098 is refused where its facts are asked for, a day outside its book after that.
 mod answers;
-mod book;
 mod easter;
 mod excluded;
 mod kinds;
@@ -13,7 +12,6 @@ pub use answers::Kind;
 pub use answers::Known;
 pub use answers::Sunday;
 pub use answers::Winter;
-pub use book::day_readings;
 pub use easter::easter_sunday;
 pub use kinds::kind_of;
 pub use weekdays::weekday_of;

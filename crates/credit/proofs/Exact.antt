@@ -7,6 +7,7 @@ use mathlib.Core.List.{List}
 use mathlib.Core.Logic.{_↔_}
 use mathlib.Core.Path.{_≡_, refl, _∙_}
 use lib.ListN.{length}
+use Rattle.book.specs.Length.{bookLength}
 use Rattle.dates.specs.Winters.{days}
 use Rattle.laws.proofs.Tables.{FirstBroken, first-broken}
 use Rattle.laws.specs.Table.{isRefusal}
@@ -23,7 +24,7 @@ use Rattle.credit.proofs.SettlementLaws.{number-is, settled-accepted, s
 
 -- all that a settlement asks: DEMAND 2, "A list is accepted exactly when it keeps every rule of its profile", with the call's own rules
 pub record Settles (w readings p : ℕ) (l : List ℕ) (room : ℕ) : Type 0 where
-  pub book : readings ≡ 24 * days w
+  pub book : readings ≡ bookLength (days w)
   pub price : RightPrice p
   pub list : Lawful w (figuresOf Credit) l
   pub room-for : lineNumbers * countOf l ≤ room

@@ -2,13 +2,14 @@
 -- that is not refused.
 -- Assumes nothing.
 use Prim.Native.Nat.{ℕ, _*_, _%_, _≤_}
-use mathlib.Core.Bool.{true, false, not}
+use mathlib.Core.Bool.{true, false}
 use mathlib.Core.List.{List, _++_}
 use mathlib.Core.Path.{_≡_, refl, sym, ap, subst, _∙_}
 use native.Mathlib.Omega.{arith}
-use lib.Dec.{eqb}
 use lib.ListN.{length}
-use borrow.Author.Tests.{eq-eqb, ne-eqb, eqb-true, ltb-false, le-ltb, not-false}
+use borrow.Author.Tests.{ne-eqb, ltb-false, le-ltb}
+use Rattle.book.proofs.LengthLaws.{right-length, length-right}
+use Rattle.book.specs.Length.{bookLength, wrongLength}
 use Rattle.dates.proofs.Promise.{winter-range, is-winter, winter-count}
 use Rattle.dates.specs.Answers.{daysPaper, winterDays}
 use Rattle.dates.specs.Winters.{noWinter, days}
@@ -53,16 +54,14 @@ module _ (w readings p numbers room : ℕ) where
   winter-refused e = row-stops _ _ e
 
   module _ (r : Days) (count : ℕ) (q : r ≡ Are count) (e : daysPaper r ≡ winterDays w) where
-    pub book-refused : (readings ≡ 24 * count → ⊥) → refusalAt 2 0 ≡ firstOf (callRows w readings p numbers room)
+    pub book-refused : wrongLength count readings ≡ true → refusalAt 2 0 ≡ firstOf (callRows w readings p numbers room)
     unfolding callRows badBook
-    book-refused f =
-        let wrong : not (eqb readings (24 * days w)) ≡ true = rw (ne-eqb readings (24 * days w) (λ (x : readings ≡ 24 * days w). f (omega (arith, winter-count w count r q e)))) in
-        row-goes _ _ (is-winter w count r q e) (row-stops _ _ wrong)
+    book-refused f = row-goes _ _ (is-winter w count r q e) (row-stops _ _ (rw (← winter-count w count r q e) f))
 
-    module _ (b : readings ≡ 24 * count) where
+    module _ (b : wrongLength count readings ≡ false) where
       right-book : badBook w readings ≡ false
       unfolding badBook
-      right-book = rw (eq-eqb readings (24 * days w) (omega (arith, winter-count w count r q e)))
+      right-book = rw (← winter-count w count r q e) b
 
       pub price-refused : badPrice p ≡ true → refusalAt 3 0 ≡ firstOf (callRows w readings p numbers room)
       unfolding callRows
@@ -85,7 +84,7 @@ module _ (w readings p numbers room : ℕ) where
 -- what holds of a call that is not refused
 pub record RightCall (w readings p numbers room : ℕ) : Type 0 where
   pub winter : (2010 ≤ w) × (w ≤ 2098)
-  pub book : readings ≡ 24 * days w
+  pub book : readings ≡ bookLength (days w)
   pub price : RightPrice p
   pub whole : numbers % noticeNumbers ≡ 0
   pub few : countIn numbers ≤ mostNotices
@@ -103,7 +102,7 @@ unfolding callRows badBook shortOutput
 none-right w readings p numbers room none =
     record {
       winter = winter-range w .0 (none .0);
-      book = eqb-true readings (24 * days w) (not-false _ (none .1 .0));
+      book = right-length (days w) readings (none .1 .0);
       price = right-price p (none .1 .1 .0);
       whole = list-fits numbers (none .1 .1 .1 .0) .whole;
       few = list-fits numbers (none .1 .1 .1 .0) .few;
@@ -113,7 +112,7 @@ none-right w readings p numbers room none =
 right-none : (w readings p numbers room : ℕ) → RightCall w readings p numbers room → NoneBroken (callRows w readings p numbers room)
 unfolding callRows badBook shortOutput
 right-none w readings p numbers room s =
-    let book : not (eqb readings (24 * days w)) ≡ false = rw (eq-eqb readings (24 * days w) (s .book)) refl in
+    let book : wrongLength (days w) readings ≡ false = length-right (days w) readings (s .book) in
     (winter-range w .1 (s .winter), (book, (price-right p (s .price), (whole-test numbers (s .whole) (s .few), (le-ltb room (lineNumbers * countIn numbers) (s .room-for), tt)))))
 
 pub call-right : (w readings p numbers room : ℕ) → isRefusal (firstOf (callRows w readings p numbers room)) ≡ false → RightCall w readings p numbers room

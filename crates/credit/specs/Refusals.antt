@@ -2,10 +2,11 @@
 -- "Order: .. settlement 1, 2, 3, 4, 6, then the notices under profile 1".
 -- Assumes nothing.
 use Prim.Native.Nat.{ℕ, _*_}
-use mathlib.Core.Bool.{Bool, not}
+use mathlib.Core.Bool.{Bool}
 use mathlib.Core.List.{List, [], _∷_, _++_}
-use lib.Dec.{ltb, eqb}
+use lib.Dec.{ltb}
 use lib.ListN.{length}
+use Rattle.book.specs.Length.{wrongLength}
 use Rattle.calendar.specs.WinterOf.{winterOf}
 use Rattle.dates.specs.Winters.{noWinter, days}
 use Rattle.laws.specs.Answer.{Answer}
@@ -19,7 +20,7 @@ use Rattle.credit.specs.Lines.{lineNumbers}
 
 -- "2: book length is not 24N"
 unfoldable pub badBook : ℕ → ℕ → Bool
-badBook w readings = not (eqb readings (24 * days w))
+badBook w readings = wrongLength (days w) readings
 
 -- "6: output has fewer than 4 numbers a notice", by how many numbers the list has
 unfoldable pub shortOutput : ℕ → ℕ → Bool

@@ -21,7 +21,7 @@ pub fn call_refusal(winter: u32, readings: usize, price: u32, numbers: usize, ro
     let Days::Are(count) = days else {
         return 1;
     };
-    if readings != 24 * (count as usize) {
+    if book::wrong_length(count, readings) {
         return 2;
     }
     if money::bad_price(price) {

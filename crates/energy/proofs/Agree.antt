@@ -2,28 +2,24 @@
 -- the same answer to the call.
 -- Assumes nothing.
 use Prim.Native.Nat.{ℕ}
-use mathlib.Core.List.{List, [], _∷_}
-use mathlib.Core.Path.{_≡_, refl, sym, _∙_}
+use mathlib.Core.List.{List}
+use mathlib.Core.Path.{_≡_, sym, _∙_}
 use native.Mathlib.Nat.{one-mul}
 use lib.ListN.{length}
+use Rattle.book.proofs.FaultLaws.{fault-agrees}
+use Rattle.book.specs.Readings.{readingAt}
 use Rattle.calendar.specs.declared.answers.Winter.{Winter}
 use Rattle.laws.proofs.Every.{Every, imply}
 use Rattle.notices.specs.declared.notices.Notice.{Notice}
 use Rattle.energy.specs.Asked.{Asked, askedBy, needed}
 use Rattle.energy.specs.Energy.{energyOf}
 use Rattle.energy.specs.Line.{lineOf, eventAnswer}
-use Rattle.energy.specs.Readings.{readingAt, firstFault}
 use Rattle.energy.proofs.Scaled.{Times, energy-scaled}
 
 module _ (book other : List ℕ) where
   -- the two have one reading at a place
   abbrev pub Agrees : ℕ → Type 0
   Agrees p = readingAt book p ≡ readingAt other p
-
-  pub fault-agrees : (places : List ℕ) → Every Agrees places → firstFault book places ≡ firstFault other places
-  unfolding firstFault
-  fault-agrees [] a = refl
-  fault-agrees (p ∷ places) a = rw (a .0, fault-agrees places (a .1))
 
   pub energy-agrees : (q : Asked) → Every Agrees (needed q) → energyOf book q ≡ energyOf other q
   unfolding energyOf
@@ -32,7 +28,7 @@ module _ (book other : List ℕ) where
 
   pub line-agrees : (q : Asked) → Every Agrees (needed q) → lineOf book q ≡ lineOf other q
   unfolding lineOf
-  line-agrees q a = rw (fault-agrees (needed q) a, energy-agrees q a)
+  line-agrees q a = rw (fault-agrees book other (needed q) a, energy-agrees q a)
 
   pub event-agrees : (w : Winter) (masks : List ℕ) (n : Notice) → length book ≡ length other → Every Agrees (needed (askedBy w masks n))
       → eventAnswer w book masks n ≡ eventAnswer w other masks n

@@ -1,52 +1,39 @@
 -- Theorems of the call on one event: where it is not refused, every needed place lies in the book; and a settled event's energy is at
 -- most 1,500,000,000 eighteenths of a Wh.
 -- Assumes nothing.
-use Prim.Native.Nat.{ℕ, _+_, _-_, _*_, _≤_, _<_}
+use Prim.Native.Nat.{ℕ, _-_, _*_, _≤_, _<_}
 use mathlib.Core.Bool.{false}
 use mathlib.Core.List.{List, [], _∷_, _++_, map}
 use mathlib.Core.Path.{_≡_, refl, sym, ap, _∙_}
-use native.Mathlib.Nat.{mul-add}
 use native.Mathlib.Omega.{arith}
 use lib.ListN.{length, getD, length-map}
-use borrow.Author.Tests.{eqb-true, not-false}
-use Rattle.calendar.proofs.BookLaws.{part-there, part-earlier, place-in}
+use borrow.Author.Tests.{not-false}
+use Rattle.book.proofs.FirstFault.{Right}
+use Rattle.book.proofs.PartLaws.{part-there, part-earlier, places-in}
+use Rattle.book.proofs.PlaceLaws.{at-hours}
+use Rattle.book.proofs.RunLaws.{hours-long, hours-below}
+use Rattle.book.proofs.SumLaws.{sum-most}
+use Rattle.book.specs.Part.{noPart}
+use Rattle.book.specs.Places.{InDay, hoursFrom}
+use Rattle.book.specs.Readings.{drawnAt}
+use Rattle.book.specs.Values.{largestReading}
 use Rattle.calendar.proofs.Promise.{in-book}
-use Rattle.calendar.specs.Book.{noPart}
 use Rattle.calendar.specs.declared.answers.Winter.{Winter}
 use Rattle.laws.proofs.Every.{Every, left, right, joined, imply, map-of}
 use Rattle.laws.proofs.Refusals.{passed}
 use Rattle.laws.specs.Answer.{Answer, given}
 use Rattle.notices.specs.declared.notices.Notice.{Notice}
-use Rattle.energy.specs.Asked.{Asked, askedBy, hoursFrom, warmUp, placesOf, placesOn, needed}
-use Rattle.energy.specs.Energy.{sumOver, drawnAt, trimmedAt, energyOf}
+use Rattle.energy.specs.Asked.{Asked, askedBy, warmUp, needed}
+use Rattle.energy.specs.Energy.{trimmedAt, energyOf}
 use Rattle.energy.specs.HoursOf.{Spans}
 use Rattle.energy.specs.Line.{settled, lineOf, eventAnswer}
-use Rattle.energy.specs.Readings.{largestReading}
 use Rattle.energy.specs.ReferenceDays.{referenceDays}
 use Rattle.energy.proofs.EnergyBound.{trimmed-bound, spared-bound}
-use Rattle.energy.proofs.HourLaws.{in-band, InDay, hours-long, hours-below, warm-below}
+use Rattle.energy.proofs.HourLaws.{in-band, warm-below}
 use Rattle.energy.proofs.Nearest.{refs-serve, refs-few}
-use Rattle.energy.proofs.Scaled.{at-hours}
-use Rattle.energy.proofs.Unsettled.{Right, settled-where, settled-only}
-
--- places
-
-places-in : (w : Winter) (len : ℕ) (hours ds : List ℕ) → Every InDay hours → Every (λ (d : ℕ). noPart w len d ≡ false) ds
-    → Every (λ (p : ℕ). p < len) (placesOn hours ds)
-unfolding placesOn
-places-in w len hours [] h e = tt
-places-in w len hours (d ∷ ds) h e =
-    joined _ (placesOf d hours) (placesOn hours ds)
-    (map-of _ (λ (x : ℕ). 24 * d + x) hours (imply _ _ (λ x b. place-in w len d x (e .0) b) hours h))
-    (places-in w len hours ds h (e .1))
+use Rattle.energy.proofs.Unsettled.{settled-where, settled-only}
 
 -- readings: those of a clean event are at most the largest
-
-sum-most : (f : ℕ → ℕ) (m : ℕ) (hours : List ℕ) → Every (λ (h : ℕ). f h ≤ m) hours → sumOver f hours ≤ m * length hours
-unfolding sumOver
-sum-most f m [] a = omega arith
-sum-most f m (h ∷ hours) a = omega (arith, a .0, sum-most f m hours (a .1), mul-add m 1 (length hours))
-
 module _ (book : List ℕ) (q : Asked) (five : length (q .refs) ≡ 5) (all : Every (Right book) (needed q)) where
   abbrev HourMost : ℕ → Type 0
   HourMost h = Every (λ (d : ℕ). drawnAt book d h ≤ largestReading) (q .day ∷ q .refs)
@@ -84,7 +71,7 @@ module _ (w : Winter) (book masks : List ℕ) (n : Notice) where
       let b = passed 1 _ _ vs (a .1) in
       let c = passed 9 _ _ vs (b .1) in
       let d = passed 12 _ _ vs (c .1) in
-      let there = part-there w (length book) (n .day) (a .0) (eqb-true _ _ (not-false _ (b .0))) (in-book w (n .day) (not-false _ (c .0))) in
+      let there = part-there w (length book) (n .day) (a .0) (b .0) (in-book w (n .day) (not-false _ (c .0))) in
       (there, in-band _ n refl (d .0), d .1)
 
   pub needed-in : (vs : List ℕ) → eventAnswer w book masks n ≡ given vs → Every (λ (p : ℕ). p < length book) (needed (askedBy w masks n))

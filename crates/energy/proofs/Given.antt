@@ -1,14 +1,17 @@
 -- Whatever the call on one event answers is some line's paper, so the energy beside it is at most 1,500,000,000 eighteenths of a Wh; and
 -- an event whose winter, book and notice stand is not refused: it is given code, place and energy.
 -- Assumes nothing.
-use Prim.Native.Nat.{ℕ, _*_, _≤_}
+use Prim.Native.Nat.{ℕ, _≤_}
 use mathlib.Core.Bool.{Bool, false, not}
 use mathlib.Core.List.{List, [], _∷_}
 use mathlib.Core.Path.{_≡_, refl, sym, _∙_}
 use native.Mathlib.Omega.{arith}
-use lib.Dec.{eqb}
 use lib.ListN.{length, getD}
-use borrow.Author.Tests.{eq-eqb}
+use Rattle.book.proofs.LengthLaws.{length-right}
+use Rattle.book.specs.Length.{bookLength, wrongLength}
+use Rattle.book.specs.Readings.{firstFault}
+use Rattle.book.specs.declared.values.Fault.the-variants.{Clean, Missing, TooLarge}
+use Rattle.book.specs.declared.values.Fault.{Fault}
 use Rattle.calendar.proofs.Promise.{facts-days, facts-right, period-day}
 use Rattle.dates.specs.Winters.{days}
 use Rattle.calendar.specs.Days.{inPeriod}
@@ -24,11 +27,8 @@ use Rattle.schedule.proofs.Lawful.{Sound}
 use Rattle.energy.specs.Asked.{Asked, askedBy, needed}
 use Rattle.energy.specs.Energy.{energyOf}
 use Rattle.energy.specs.Line.{settled, linePaper, byFault, lineOf, eventAnswer}
-use Rattle.energy.specs.Readings.{firstFault}
 use Rattle.energy.specs.declared.lines.Line.the-variants as LineCase
 use Rattle.energy.specs.declared.lines.Line.{Line}
-use Rattle.energy.specs.declared.readings.Fault.the-variants.{Clean, Missing, TooLarge}
-use Rattle.energy.specs.declared.readings.Fault.{Fault}
 use Rattle.energy.proofs.EventLaws.{energy-most}
 
 -- an answer that is some line's paper
@@ -84,14 +84,13 @@ line-three book q =
     either-way (λ (a : Answer). a ≡ threeOf a) _ (λ few. refl) (λ enough. fault-three (firstFault book (needed q)) (energyOf book q))
 
 -- an event of a list that stands is given its line
-pub event-given : (y : ℕ) (book masks : List ℕ) (n : Notice) → length book ≡ 24 * days y → Sound y (figuresOf Credit) n
+pub event-given : (y : ℕ) (book masks : List ℕ) (n : Notice) → length book ≡ bookLength (days y) → Sound y (figuresOf Credit) n
     → eventAnswer (winterOf y) book masks n ≡ threeOf (eventAnswer (winterOf y) book masks n)
 unfolding eventAnswer
 event-given y book masks n b s =
     let w = winterOf y in
     let day : not (inPeriod w (n .day)) ≡ false = rw (period-day y (n .day) .1 (s .period)) in
-    let long : length book ≡ 24 * w .days = omega (arith, facts-days y) in
-    let length-right : not (eqb (length book) (24 * w .days)) ≡ false = rw (eq-eqb (length book) (24 * w .days) long) in
+    let long : wrongLength (w .days) (length book) ≡ false = length-right (w .days) (length book) (omega (arith, facts-days y)) in
     let e : lineOf book (askedBy w masks n) ≡ eventAnswer w book masks n =
-    kept _ (facts-right y) (kept _ length-right (kept _ day (kept _ (hours-iff (figuresOf Credit) n .1 (s .some-hour, s .band)) refl))) in
+    kept _ (facts-right y) (kept _ long (kept _ day (kept _ (hours-iff (figuresOf Credit) n .1 (s .some-hour, s .band)) refl))) in
     rw (← e) (line-three book (askedBy w masks n))

@@ -14,7 +14,7 @@ use Rattle.calendar.specs.declared.answers.DayKind.the-variants.{Is, NoDay, NoW
 use Rattle.calendar.specs.declared.answers.DayKind.{DayKind}
 use Rattle.calendar.specs.declared.answers.Kind.{Kind}
 use Rattle.calendar.specs.declared.answers.Winter.{Winter}
-use Rattle.energy.specs.Held.{BookDay, OnDay}
+use Rattle.energy.specs.Search.{BookDay, OnDay}
 
 module _ (w : Winter) (d : ℕ) (r : DayKind) where
   pub told-day : (k : Kind) → r ≡ Is k → kindPaper r ≡ dayKind w d → OnDay w d k

@@ -3,46 +3,44 @@
 use Prim.Native.Nat.{ℕ, _≤_, _<_}
 use mathlib.Core.Bool.{true, false}
 use mathlib.Core.List.{List}
-use mathlib.Core.Path.{_≡_, ap, _∙_}
+use mathlib.Core.Path.{_≡_, sym, _∙_}
 use native.Mathlib.Omega.{arith}
 use lib.ListN.{length, getD}
+use lib.Seq.{take-all}
 use borrow.Author.Tests.{lt-ltb}
-use Rattle.calendar.proofs.BookLaws.{has-part, part-earlier}
-use Rattle.calendar.specs.Book.{noPart}
+use Rattle.book.proofs.PartLaws.{has-part, part-earlier}
+use Rattle.book.specs.Part.{noPart}
 use Rattle.calendar.specs.declared.answers.Winter.{Winter}
 use Rattle.laws.proofs.Every.{at}
 use Rattle.laws.proofs.Refusals.{refused}
 use Rattle.laws.specs.Answer.{Answer}
 use Rattle.notices.specs.declared.notices.Notice.{Notice}
 use Rattle.energy.specs.Asked.{askedBy}
-use Rattle.energy.specs.Held.{heldIn, BookDay}
+use Rattle.energy.specs.Search.{Finds, BookDay}
 use Rattle.energy.specs.HoursOf.{HoursFor, askedIn}
 use Rattle.energy.specs.Line.{unsettled, lineOf}
 use Rattle.energy.specs.Parts.{SixDays}
 use Rattle.energy.specs.ReferenceDays.{serves, referenceDays}
 use Rattle.energy.specs.declared.hours.Hours.{Hours}
 use Rattle.energy.specs.declared.reference_days.Refs.{Refs}
-use Rattle.energy.proofs.Nearest.{refs-serve, refs-few, held-days}
+use Rattle.energy.proofs.Nearest.{refs-serve, refs-few}
 
 -- a day whose part is in the book is a book day
 pub on-book : (w : Winter) (len d : ℕ) → noPart w len d ≡ false → BookDay w d
 on-book w len d e = let p = has-part w len d e in record { right = p .winter; there = p .day }
 
 -- the search's answer r: fewer than five days, or the five
-module _ (w : Winter) (masks : List ℕ) (n : Notice) (r : Refs) (q : r ≡ heldIn (referenceDays w masks (n .day))) where
-  count-is : r .count ≡ length (referenceDays w masks (n .day))
-  count-is = ap (λ (x : Refs). x .count) q ∙ held-days (referenceDays w masks (n .day)) (refs-few w masks (n .day)) .counted
-
+module _ (w : Winter) (masks : List ℕ) (n : Notice) (r : Refs) (found : Finds (referenceDays w masks (n .day)) r) where
   pub line-few : (book : List ℕ) → r .count < 5 → unsettled 20 0 ≡ lineOf book (askedBy w masks n)
   unfolding lineOf askedBy
-  line-few book h = refused _ _ (lt-ltb (length (referenceDays w masks (n .day))) 5 (omega (arith, count-is)))
+  line-few book h = refused _ _ (lt-ltb (length (referenceDays w masks (n .day))) 5 (omega (arith, found .counted)))
 
   module _ (h : 5 ≤ r .count) where
     five : length (referenceDays w masks (n .day)) ≡ 5
-    five = omega (arith, count-is, refs-few w masks (n .day))
+    five = omega (arith, found .counted, refs-few w masks (n .day))
 
     days-are : r .days ≡ referenceDays w masks (n .day)
-    days-are = ap (λ (x : Refs). x .days) q ∙ held-days (referenceDays w masks (n .day)) (refs-few w masks (n .day)) .five-are five
+    days-are = sym (take-all (r .count) (r .days) (omega (arith, found .long))) ∙ found .first
 
     earlier : (k : ℕ) → k < 5 → getD (r .days) k 0 < n .day
     earlier k b =

@@ -1,19 +1,17 @@
 -- The reference days are exactly the five nearest days that serve, without the recursion: each serves and is before the event day; they
 -- fall; there are at most five; and a day that serves and is none of them is before all of them, and then there are five. First of the
--- days before any day that pass any test; and what the array that holds them has.
+-- days before any day that pass any test.
 -- Assumes nothing.
 use Prim.Native.Nat.{ℕ, zero, suc, _≤_, _<_}
 use mathlib.Core.Bool.{Bool, true, false, cond}
-use mathlib.Core.List.{List, [], _∷_, _++_, append-nil, List·Memᴰ, List·Memᴰ·head, List·Memᴰ·tail}
+use mathlib.Core.List.{List, [], _∷_, List·Memᴰ, List·Memᴰ·head, List·Memᴰ·tail}
 use mathlib.Core.Logic.{_⊎_, inl, inr, ⊎-elim}
-use mathlib.Core.Path.{_≡_, refl, ap, _∙_}
-use native.Mathlib.Nat.{le-of-suc-le-suc, eq-or-lt-of-le, zero-add}
+use mathlib.Core.Path.{_≡_, refl, ap}
+use native.Mathlib.Nat.{le-of-suc-le-suc, eq-or-lt-of-le}
 use native.Mathlib.Omega.{arith}
-use lib.ListN.{length, getD, take, drop, replicate, length-take}
-use lib.Seq.{sets, sets-eq}
+use lib.ListN.{length, getD, take, length-take}
 use Rattle.calendar.specs.declared.answers.Winter.{Winter}
 use Rattle.laws.proofs.Every.{Every, front, at, imply}
-use Rattle.energy.specs.Held.{heldIn}
 use Rattle.energy.specs.ReferenceDays.{serves, before, referenceDays}
 
 -- the days before d that pass a test
@@ -105,19 +103,3 @@ module _ (w : Winter) (masks : List ℕ) (day : ℕ) where
       ⊎-elim (λ (m : List·Memᴰ d (referenceDays w masks day)). absurd (out m))
       (λ (p : Every (λ (r : ℕ). d < r) (referenceDays w masks day) × (length (referenceDays w masks day) ≡ 5)). p)
       (before-met (serves w masks day) day 5 d h t)
-
--- what the array that holds at most five days has
-pub record HeldDays (ds : List ℕ) : Type 0 where
-  pub counted : heldIn ds .count ≡ length ds
-  pub five-are : length ds ≡ 5 → heldIn ds .days ≡ ds
-
-pub held-days : (ds : List ℕ) → length ds ≤ 5 → HeldDays ds
-unfolding heldIn
-held-days ds h =
-    record {
-      counted = refl;
-      five-are = λ e. split ∙ rw (e, append-nil);
-    }
-  where
-    split : sets (replicate 5 0) 0 ds ≡ ds ++ drop (length ds) (replicate 5 0)
-    split = sets-eq ds (replicate 5 0) 0 (omega arith) ∙ rw (zero-add (length ds))

@@ -1,30 +1,27 @@
--- Laws of sums and faults over a run of hours and over six parts: one for one hour more, one for the end, one for each way out. A clean
--- fault leaves it to what comes after, any other decides.
+-- Laws of the parts of an event's days: T of an hour from its five readings; the first fault of a day's two runs of hours, one law for each way
+-- out; the first fault of six days, one after the other; and that there is none where each hour's highest reading is one.
 -- Assumes nothing.
-use Prim.Native.Nat.{ℕ, _+_, _*_, _≤_, _<_}
+use Prim.Native.Nat.{ℕ, _+_, _≤_, _<_}
 use mathlib.Core.Bool.{true, false}
 use mathlib.Core.List.{List, [], _∷_, _++_, map}
-use mathlib.Core.Path.{_≡_, refl, sym, _∙_}
+use mathlib.Core.Path.{_≡_, refl, ap, _∙_}
+use native.Mathlib.Omega.{arith}
 use lib.ListN.{length, getD}
-use Rattle.energy.specs.Energy.{sumOver}
-use Rattle.energy.specs.HoursOf.{run}
-use Rattle.energy.specs.Parts.{partFault, partsFault, trimmedIn}
-use Rattle.energy.specs.Readings.{readingAt, faultOf, isClean, orFault}
-use Rattle.energy.specs.Trimmed.{trimmedOf}
-use Rattle.energy.specs.declared.readings.Fault.the-variants.{Clean, Missing, TooLarge}
-use Rattle.energy.specs.declared.readings.Fault.{Fault}
-use Rattle.energy.proofs.HourLaws.{run-more, run-none}
+use borrow.Author.Tests.{leb-true}
+use Rattle.book.proofs.FaultLaws.{or-clean, or-fault, faults-joined}
+use Rattle.book.proofs.FirstFault.{Right, no-fault}
+use Rattle.book.proofs.RunLaws.{run-more, run-none}
+use Rattle.book.specs.Part.{faultOn}
+use Rattle.book.specs.Places.{run}
+use Rattle.book.specs.Readings.{readingAt, firstFault}
+use Rattle.book.specs.Values.{largestReading, isReading, isClean, orFault}
+use Rattle.book.specs.declared.values.Fault.the-variants.{Clean}
+use Rattle.book.specs.declared.values.Fault.{Fault}
+use Rattle.laws.proofs.Every.{Every, joined, imply, mapped}
+use Rattle.laws.proofs.Guards.{both}
+use Rattle.energy.specs.Parts.{partsFault, highestAt, allReadings, trimmedIn}
+use Rattle.energy.specs.Trimmed.{largestOf, trimmedOf}
 use Rattle.energy.proofs.TrimmedLaws.{five}
-
--- sums
-
-pub sum-more : (f : ℕ → ℕ) (h to : ℕ) → h < to → sumOver f (run h to) ≡ f h + sumOver f (run (h + 1) to)
-unfolding sumOver
-sum-more f h to b = rw (run-more h to b)
-
-pub sum-none : (f : ℕ → ℕ) (h to : ℕ) → to ≤ h → sumOver f (run h to) ≡ 0
-unfolding sumOver
-sum-none f h to b = rw (run-none h to b)
 
 -- T of an hour, from its five readings
 pub trimmed-hour : (parts : List (List ℕ)) (h : ℕ) {readings : List ℕ} {t : ℕ} → readings ≡ map (λ (p : List ℕ). readingAt p h) parts → t ≡ trimmedOf readings
@@ -32,59 +29,74 @@ pub trimmed-hour : (parts : List (List ℕ)) (h : ℕ) {readings : List ℕ} {t 
 unfolding trimmedIn
 trimmed-hour parts h e q = rw (← e) q
 
--- faults
+-- two runs of hours of day d, where nothing was wrong before: a fault in the first decides, else the second does
+module _ (part : List ℕ) (d : ℕ) (xs ys : List ℕ) (before first : Fault) (none : isClean before ≡ true) (is : first ≡ firstFault part xs) where
+  pub first-run : isClean first ≡ false → faultOn d first ≡ orFault before (faultOn d (firstFault part (xs ++ ys)))
+  first-run faulty =
+      rw (faults-joined part xs ys, ← is)
+      (ap (λ (f : Fault). faultOn d f) (or-fault first (firstFault part ys) faulty)
+      ∙ or-clean before (faultOn d (orFault first (firstFault part ys))) none)
 
-or-clean : (f g : Fault) → isClean f ≡ true → g ≡ orFault f g
-or-clean Clean g h = refl
-or-clean (Missing p) g h = cc
-or-clean (TooLarge p) g h = cc
-
-pub or-fault : (f g : Fault) → isClean f ≡ false → f ≡ orFault f g
-or-fault Clean g h = cc
-or-fault (Missing p) g h = refl
-or-fault (TooLarge p) g h = refl
-
-pub or-assoc : (a b c : Fault) → orFault (orFault a b) c ≡ orFault a (orFault b c)
-or-assoc Clean b c = refl
-or-assoc (Missing p) b c = refl
-or-assoc (TooLarge p) b c = refl
-
--- one hour more of a day, whose reading is v
-module _ (part : List ℕ) (day h to : ℕ) (b : h < to) (v : ℕ) (f : Fault) (r : v ≡ readingAt part h) (e : f ≡ faultOf v (24 * day + h)) where
-  pub hour-clean : isClean f ≡ true → partFault part day (run (h + 1) to) ≡ partFault part day (run h to)
-  unfolding partFault
-  hour-clean c = rw (run-more h to b, ← r, ← e) (or-clean f (partFault part day (run (h + 1) to)) c)
-
-  pub hour-fault : isClean f ≡ false → f ≡ partFault part day (run h to)
-  unfolding partFault
-  hour-fault c = rw (run-more h to b, ← r, ← e) (or-fault f (partFault part day (run (h + 1) to)) c)
-
-pub hours-end : (part : List ℕ) (day h to : ℕ) → to ≤ h → Clean ≡ partFault part day (run h to)
-unfolding partFault
-hours-end part day h to b = rw (run-none h to b)
-
-part-joined : (part : List ℕ) (d : ℕ) (xs ys : List ℕ) → partFault part d (xs ++ ys) ≡ orFault (partFault part d xs) (partFault part d ys)
-unfolding partFault
-part-joined part d [] ys = refl
-part-joined part d (x ∷ xs) ys =
-    rw (part-joined part d xs ys) (sym (or-assoc (faultOf (readingAt part x) (24 * d + x)) (partFault part d xs) (partFault part d ys)))
-
--- a day's two runs of hours, where nothing was wrong before: a fault in the first decides, else the second does
-module _ (part : List ℕ) (d : ℕ) (xs ys : List ℕ) (f g : Fault) (none : isClean f ≡ true) (e : g ≡ partFault part d xs) where
-  pub first-run : isClean g ≡ false → g ≡ orFault f (partFault part d (xs ++ ys))
-  first-run c = rw (part-joined part d xs ys, ← e) (or-fault g (partFault part d ys) c ∙ or-clean f (orFault g (partFault part d ys)) none)
-
-  pub second-run : (r : Fault) → isClean g ≡ true → r ≡ partFault part d ys → r ≡ orFault f (partFault part d (xs ++ ys))
-  second-run r c q = rw (part-joined part d xs ys, ← e, ← q) (or-clean g r c ∙ or-clean f (orFault g r) none)
+  pub second-run : (second : Fault) → isClean first ≡ true → second ≡ firstFault part ys
+      → faultOn d second ≡ orFault before (faultOn d (firstFault part (xs ++ ys)))
+  second-run second clean q =
+      rw (faults-joined part xs ys, ← is, ← q)
+      (ap (λ (f : Fault). faultOn d f) (or-clean first second clean) ∙ or-clean before (faultOn d (orFault first second)) none)
 
 -- six parts, day by day
 pub six-faults : (hours refs : List ℕ) (day : ℕ) (p q r s t u : List ℕ) {f0 f1 f2 f3 f4 f5 : Fault} → length refs ≡ 5
-    → f0 ≡ partFault p day hours
-    → f1 ≡ orFault f0 (partFault q (getD refs 0 0) hours)
-    → f2 ≡ orFault f1 (partFault r (getD refs 1 0) hours)
-    → f3 ≡ orFault f2 (partFault s (getD refs 2 0) hours)
-    → f4 ≡ orFault f3 (partFault t (getD refs 3 0) hours)
-    → f5 ≡ orFault f4 (partFault u (getD refs 4 0) hours)
+    → f0 ≡ faultOn day (firstFault p hours)
+    → f1 ≡ orFault f0 (faultOn (getD refs 0 0) (firstFault q hours))
+    → f2 ≡ orFault f1 (faultOn (getD refs 1 0) (firstFault r hours))
+    → f3 ≡ orFault f2 (faultOn (getD refs 2 0) (firstFault s hours))
+    → f4 ≡ orFault f3 (faultOn (getD refs 3 0) (firstFault t hours))
+    → f5 ≡ orFault f4 (faultOn (getD refs 4 0) (firstFault u hours))
     → f5 ≡ partsFault hours Clean (day ∷ refs) (p ∷ q ∷ r ∷ s ∷ t ∷ u ∷ [])
 unfolding partsFault
 six-faults hours refs day p q r s t u n e0 e1 e2 e3 e4 e5 = rw (← five refs n, ← e0, ← e1, ← e2, ← e3, ← e4) e5
+
+-- hour by hour
+module _ (parts : List (List ℕ)) (h to : ℕ) (b : h < to) (high : ℕ) (is : high ≡ highestAt parts h) where
+  pub one-reading : isReading high ≡ true → allReadings parts (run (h + 1) to) ≡ allReadings parts (run h to)
+  unfolding allReadings
+  one-reading t = rw (run-more h to b, ← is, t)
+
+  pub one-not : isReading high ≡ false → false ≡ allReadings parts (run h to)
+  unfolding allReadings
+  one-not t = rw (run-more h to b, ← is, t)
+
+pub no-hour : (parts : List (List ℕ)) (h to : ℕ) → to ≤ h → true ≡ allReadings parts (run h to)
+unfolding allReadings
+no-hour parts h to b = rw (run-none h to b)
+
+-- where the highest is a reading each is
+each-most : (m : ℕ) (xs : List ℕ) → largestOf xs ≤ m → Every (λ (x : ℕ). x ≤ m) xs
+unfolding largestOf
+each-most m [] h = tt
+each-most m (x ∷ []) h = (h, tt)
+each-most m (x ∷ y ∷ ys) h = (omega arith, each-most m (y ∷ ys) (omega arith))
+
+-- all the readings of an hour, and of an hour in each part
+abbrev HourRight : List (List ℕ) → ℕ → Type 0
+HourRight parts h = Every (λ (p : List ℕ). Right p h) parts
+
+hours-right : (parts : List (List ℕ)) (hours : List ℕ) → allReadings parts hours ≡ true → Every (HourRight parts) hours
+unfolding allReadings highestAt
+hours-right parts [] e = tt
+hours-right parts (h ∷ hours) e =
+    let all = both (isReading (highestAt parts h)) (allReadings parts hours) e in
+    let most = each-most largestReading (map (λ (p : List ℕ). readingAt p h) parts) (leb-true (highestAt parts h) largestReading (all .0)) in
+    (mapped _ (λ (p : List ℕ). readingAt p h) parts most, hours-right parts hours (all .1))
+
+clean-days : (hours ds : List ℕ) (parts : List (List ℕ)) → Every (HourRight parts) hours → Clean ≡ partsFault hours Clean ds parts
+unfolding partsFault
+clean-days hours [] parts all = refl
+clean-days hours (d ∷ ds) [] all = refl
+clean-days hours (d ∷ ds) (p ∷ ps) all =
+    rw (no-fault p hours (imply (HourRight (p ∷ ps)) (Right p) (λ h x. x .0) hours all))
+    (clean-days hours ds ps (imply (HourRight (p ∷ ps)) (HourRight ps) (λ h x. x .1) hours all))
+
+pub all-clean : (xs ys ds : List ℕ) (parts : List (List ℕ)) → allReadings parts xs ≡ true → allReadings parts ys ≡ true
+    → Clean ≡ partsFault (xs ++ ys) Clean ds parts
+all-clean xs ys ds parts first second =
+    clean-days (xs ++ ys) ds parts (joined (HourRight parts) xs ys (hours-right parts xs first) (hours-right parts ys second))

@@ -3,19 +3,19 @@
 -- Assumes nothing.
 use Prim.Native.Nat.{ℕ, zero, suc, _+_, _-_, _≤_, _<_}
 use mathlib.Core.Bool.{Bool, true, false, not, cond, _&&_, Bool·beq}
-use mathlib.Core.List.{List, [], _∷_}
-use mathlib.Core.Path.{_≡_, refl, ap, _∙_}
+use mathlib.Core.List.{List, [], _∷_, _++_, append-assoc, append-nil}
+use mathlib.Core.Path.{_≡_, refl, sym, ap, _∙_}
 use native.Mathlib.Numerals.{add-one}
 use native.Mathlib.Omega.{arith}
 use lib.Dec.{ltb, eqb}
 use lib.ListN.{length, getD, take, set, replicate, length-set}
-use lib.Seq.{sets, take-nil}
+use lib.Seq.{take-nil, take-suc-set, length-take-le}
 use borrow.Author.Tests.{eq-eqb, ne-eqb, eqb-true, eqb-false, ltb-true, ltb-false, lt-ltb}
 use Rattle.calendar.specs.Excluded.{excluded}
 use Rattle.calendar.specs.Weekdays.{weekend}
 use Rattle.calendar.specs.declared.answers.Winter.{Winter}
 use Rattle.laws.proofs.Guards.{both}
-use Rattle.energy.specs.Held.{heldIn, pastEvents, freeServes}
+use Rattle.energy.specs.Search.{Finds, pastEvents, freeServes}
 use Rattle.energy.specs.ReferenceDays.{serves, before, referenceDays}
 use Rattle.energy.specs.declared.reference_days.Refs.{Refs}
 
@@ -37,12 +37,11 @@ module _ (w : Winter) (masks : List ℕ) (day d : ℕ) where
       by true = refl
       by false = refl
 
--- with `count` days of `want` stored, the rest of `want` are the nearest before d that pass
+-- `count` days are found, and the others that are wanted are the nearest before d that pass
 pub record Search (ok : ℕ → Bool) (want days : List ℕ) (count d : ℕ) : Type 0 where
   pub room : count ≤ 5
   pub size : length days ≡ 5
-  pub stored : sets days count (take (5 - count) (before ok d)) ≡ sets (replicate 5 0) 0 want
-  pub counted : count + length (take (5 - count) (before ok d)) ≡ length want
+  pub rest : take count days ++ take (5 - count) (before ok d) ≡ want
 
 -- the search goes on while there are days left and room for one
 pub goes-on : (d count : ℕ) → (ltb 0 d && ltb count 5) ≡ true → (0 < d) × (count < 5)
@@ -58,31 +57,25 @@ before-no ok d t = rw t
 
 pub search-start : (w : Winter) (masks : List ℕ) (day : ℕ) → Search (serves w masks day) (referenceDays w masks day) (replicate 5 0) 0 day
 unfolding referenceDays
-search-start w masks day = record { room = omega arith; size = refl; stored = refl; counted = omega arith }
+search-start w masks day = record { room = omega arith; size = refl; rest = refl }
 
 module _ (ok : ℕ → Bool) (want days : List ℕ) (count : ℕ) where
+  -- day d is taken, or is passed over
   yes-next : (d : ℕ) → ok d ≡ true → count < 5 → Search ok want days count (suc d) → Search ok want (set days count d) (suc count) d
   yes-next d t h s =
       record {
         room = omega arith;
         size = length-set days count d ∙ s .size;
-        stored = ap (λ (xs : List ℕ). sets days count xs) more ∙ s .stored;
-        counted = omega (arith, ap (λ (xs : List ℕ). length xs) more, s .counted);
+        rest = rw (take-suc-set days count d (omega (arith, s .size)), append-assoc) (ap (λ (ds : List ℕ). take count days ++ ds) more ∙ s .rest);
       }
     where
       more : d ∷ take (5 - suc count) (before ok d) ≡ take (5 - count) (before ok (suc d))
       more = let e : 5 - count ≡ suc (5 - suc count) = omega arith in rw (e, before-yes ok d t)
 
   no-next : (d : ℕ) → ok d ≡ false → Search ok want days count (suc d) → Search ok want days count d
-  no-next d t s =
-      record {
-        room = s .room;
-        size = s .size;
-        stored = rw (before-no ok d t) at (s .stored);
-        counted = rw (before-no ok d t) at (s .counted);
-      }
+  no-next d t s = record { room = s .room; size = s .size; rest = rw (before-no ok d t) at (s .rest) }
 
-  -- the day before d is taken, or is passed over
+  -- the day before d
   pub search-took : (d : ℕ) → (0 < d) × (count < 5) → ok (d - 1) ≡ true → Search ok want days count d
       → Search ok want (set days count (d - 1)) (count + 1) (d - 1)
   search-took zero h t s = absurd (omega arith)
@@ -100,34 +93,49 @@ module _ (ok : ℕ → Bool) (want days : List ℕ) (count : ℕ) where
       let z : 5 - count ≡ 0 = omega arith in
       rw z
 
-  -- no days left, or no room: all is stored
-  pub search-ends : (d : ℕ) → (ltb 0 d && ltb count 5) ≡ false → Search ok want days count d
-      → _≡_ {A = Refs} (record { days = days; count = count }) (heldIn want)
-  unfolding heldIn
-  search-ends d e s = rw (all-stored, all-counted)
+  -- no days left, or no room: all are found
+  pub search-ends : (d : ℕ) → (ltb 0 d && ltb count 5) ≡ false → Search ok want days count d → Finds want (record { days = days; count = count })
+  search-ends d e s =
+      record {
+        counted = sym (length-take-le count days (omega (arith, s .room, s .size))) ∙ ap length all;
+        first = all;
+        long = s .size;
+      }
     where
-      all-stored : days ≡ sets (replicate 5 0) 0 want
-      all-stored = rw (none-left d e) at (s .stored)
-
-      all-counted : count ≡ length want
-      all-counted = omega (arith, rw (none-left d e) at (s .counted))
+      all : take count days ≡ want
+      all = sym (append-nil (take count days)) ∙ (rw (none-left d e) at (s .rest))
 
 -- past the days that carry an event: the same days are found
 
-pub past-here : (masks : List ℕ) (d : ℕ) → 0 < d → getD masks (d - 1) 0 ≡ 0 → d ≡ pastEvents masks d
+past-here : (masks : List ℕ) (d : ℕ) → 0 < d → getD masks (d - 1) 0 ≡ 0 → d ≡ pastEvents masks d
 unfolding pastEvents
 past-here masks zero h e = absurd (omega arith)
 past-here masks (suc d) h e = let q : suc d - 1 ≡ d = omega arith in rw (eq-eqb (getD masks d 0) 0 (rw q at e))
 
-pub past-next : (masks : List ℕ) (d : ℕ) → 0 < d → (getD masks (d - 1) 0 ≡ 0 → ⊥) → pastEvents masks (d - 1) ≡ pastEvents masks d
+past-next : (masks : List ℕ) (d : ℕ) → 0 < d → (getD masks (d - 1) 0 ≡ 0 → ⊥) → pastEvents masks (d - 1) ≡ pastEvents masks d
 unfolding pastEvents
 past-next masks zero h e = absurd (omega arith)
 past-next masks (suc d) h e = let q : suc d - 1 ≡ d = omega arith in rw (q, ne-eqb (getD masks d 0) 0 (rw q at e))
 
-pub past-none : (masks : List ℕ) (d : ℕ) → d ≤ 0 → 0 ≡ pastEvents masks d
+past-none : (masks : List ℕ) (d : ℕ) → d ≤ 0 → 0 ≡ pastEvents masks d
 unfolding pastEvents
 past-none masks zero h = refl
 past-none masks (suc d) h = absurd (omega arith)
+
+-- the walk from a day has come to d, from where on it comes to the same day
+pub record Onward (masks : List ℕ) (day d : ℕ) : Type 0 where
+  pub within : d ≤ day
+  pub same : pastEvents masks d ≡ pastEvents masks day
+
+module _ (masks : List ℕ) (day d : ℕ) (on : Onward masks day d) where
+  pub onward-here : 0 < d → getD masks (d - 1) 0 ≡ 0 → d ≡ pastEvents masks day
+  onward-here h free = past-here masks d h free ∙ on .same
+
+  pub onward-none : d ≤ 0 → 0 ≡ pastEvents masks day
+  onward-none h = past-none masks d h ∙ on .same
+
+  pub onward-next : 0 < d → (getD masks (d - 1) 0 ≡ 0 → ⊥) → Onward masks day (d - 1)
+  onward-next h event = record { within = omega (arith, on .within); same = past-next masks d h event ∙ on .same }
 
 -- the day right before where it stops is free
 pub past-free : (masks : List ℕ) (d : ℕ) → 0 < pastEvents masks d → getD masks (pastEvents masks d - 1) 0 ≡ 0
@@ -160,7 +168,30 @@ module _ (w : Winter) (masks : List ℕ) (day : ℕ) where
       by true q rest = refl
       by false q rest = before-no (serves w masks day) d (has-event w masks day d (eqb-false (getD masks d 0) 0 q)) ∙ rest
 
-  pub search-past : (want days : List ℕ) (count d : ℕ) → Search (serves w masks day) want days count d
+  search-past : (want days : List ℕ) (count d : ℕ) → Search (serves w masks day) want days count d
       → Search (serves w masks day) want days count (pastEvents masks d)
-  search-past want days count d s =
-      record { room = s .room; size = s .size; stored = rw (before-past d) at (s .stored); counted = rw (before-past d) at (s .counted) }
+  search-past want days count d s = record { room = s .room; size = s .size; rest = rw (before-past d) at (s .rest) }
+
+-- where the search for the reference days of a day stands: it is past the days that carry an event
+pub record Walk (w : Winter) (masks : List ℕ) (day : ℕ) (days : List ℕ) (count d : ℕ) : Type 0 where
+  pub within : d ≤ day
+  pub search : Search (serves w masks day) (referenceDays w masks day) days count d
+  pub free : 0 < d → getD masks (d - 1) 0 ≡ 0
+
+module _ (w : Winter) (masks : List ℕ) (day : ℕ) where
+  -- on from d, where the search has come to
+  walk-on : (days : List ℕ) (count d : ℕ) → d ≤ day → Search (serves w masks day) (referenceDays w masks day) days count d
+      → Walk w masks day days count (pastEvents masks d)
+  walk-on days count d h s = record { within = omega (arith, past-le masks d); search = search-past w masks day _ days count d s; free = past-free masks d }
+
+  pub walk-start : Walk w masks day (replicate 5 0) 0 (pastEvents masks day)
+  walk-start = walk-on (replicate 5 0) 0 day (omega arith) (search-start w masks day)
+
+  module _ (days : List ℕ) (count d : ℕ) (more : (0 < d) × (count < 5)) where
+    pub walk-took : serves w masks day (d - 1) ≡ true → Walk w masks day days count d
+        → Walk w masks day (set days count (d - 1)) (count + 1) (pastEvents masks (d - 1))
+    walk-took t walk = walk-on _ _ (d - 1) (omega (arith, walk .within)) (search-took _ _ days count d more t (walk .search))
+
+    pub walk-passed : serves w masks day (d - 1) ≡ false → Walk w masks day days count d
+        → Walk w masks day days count (pastEvents masks (d - 1))
+    walk-passed t walk = walk-on _ _ (d - 1) (omega (arith, walk .within)) (search-passed _ _ days count d more t (walk .search))

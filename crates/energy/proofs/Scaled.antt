@@ -7,11 +7,14 @@ use mathlib.Core.Path.{_≡_, sym}
 use native.Mathlib.Nat.{mul-add, mul-zero, mul-sub, mul-le-mul-left, min-eq-left, min-eq-right, max-eq-left, max-eq-right}
 use native.Mathlib.Omega.{arith}
 use lib.ListN.{length}
-use Rattle.laws.proofs.Every.{Every, left, right, mapped, imply, both, all}
+use Rattle.book.proofs.PlaceLaws.{at-hours}
+use Rattle.book.proofs.SumLaws.{sum-times}
+use Rattle.book.specs.Places.{hourPlace}
+use Rattle.book.specs.Readings.{readingAt, drawnAt, sumOver}
+use Rattle.laws.proofs.Every.{Every, left, right, imply}
 use Rattle.laws.proofs.Order.{either-order}
-use Rattle.energy.specs.Asked.{Asked, placesOn, needed}
-use Rattle.energy.specs.Energy.{sumOver, drawnAt, trimmedAt, energyOf}
-use Rattle.energy.specs.Readings.{readingAt}
+use Rattle.energy.specs.Asked.{Asked, needed}
+use Rattle.energy.specs.Energy.{trimmedAt, energyOf}
 use Rattle.energy.specs.Spared.{sparedOf}
 use Rattle.energy.specs.Trimmed.{sumOf, smallestOf, largestOf, trimmedOf}
 
@@ -27,27 +30,16 @@ max-times k x y =
     (λ (h : y ≤ x). rw (max-eq-left h, max-eq-left (mul-le-mul-left k h)))
     (either-order x y)
 
--- from "day by day, each its hours" to "hour by hour, each its days"
-pub at-hours : (P : ℕ → Type 0) (hours ds : List ℕ) → Every P (placesOn hours ds) → Every (λ (h : ℕ). Every (λ (d : ℕ). P (24 * d + h)) ds) hours
-unfolding placesOn
-at-hours P hours [] a = all (λ (h : ℕ). Unit {0}) (λ h. tt) hours
-at-hours P hours (d ∷ ds) a =
-    both (λ (h : ℕ). P (24 * d + h))
-    (λ (h : ℕ). Every (λ (d : ℕ). P (24 * d + h)) ds)
-    hours
-    (mapped P (λ (h : ℕ). 24 * d + h) hours (left P (map (λ (h : ℕ). 24 * d + h) hours) (placesOn hours ds) a))
-    (at-hours P hours ds (right P (map (λ (h : ℕ). 24 * d + h) hours) (placesOn hours ds) a))
-
 module _ (k : ℕ) where
   -- g is k times f at x
   abbrev pub Times : (ℕ → ℕ) → (ℕ → ℕ) → ℕ → Type 0
   Times f g x = g x ≡ k * f x
 
   module _ (f g : ℕ → ℕ) where
-    sum-times : (xs : List ℕ) → Every (Times f g) xs → sumOf (map g xs) ≡ k * sumOf (map f xs)
+    all-times : (xs : List ℕ) → Every (Times f g) xs → sumOf (map g xs) ≡ k * sumOf (map f xs)
     unfolding sumOf
-    sum-times [] a = sym (mul-zero k)
-    sum-times (x ∷ xs) a = rw (a .0, sum-times xs (a .1)) (sym (mul-add k _ _))
+    all-times [] a = sym (mul-zero k)
+    all-times (x ∷ xs) a = rw (a .0, all-times xs (a .1)) (sym (mul-add k _ _))
 
     smallest-times : (xs : List ℕ) → Every (Times f g) xs → smallestOf (map g xs) ≡ k * smallestOf (map f xs)
     unfolding smallestOf
@@ -63,17 +55,12 @@ module _ (k : ℕ) where
 
     pub trimmed-times : (xs : List ℕ) → Every (Times f g) xs → trimmedOf (map g xs) ≡ k * trimmedOf (map f xs)
     unfolding trimmedOf
-    trimmed-times xs a = rw (sum-times xs a, smallest-times xs a, largest-times xs a, mul-sub k, mul-sub k)
-
-    pub over-times : (hours : List ℕ) → Every (Times f g) hours → sumOver g hours ≡ k * sumOver f hours
-    unfolding sumOver
-    over-times [] a = sym (mul-zero k)
-    over-times (h ∷ hours) a = rw (a .0, over-times hours (a .1)) (sym (mul-add k _ _))
+    trimmed-times xs a = rw (all-times xs a, smallest-times xs a, largest-times xs a, mul-sub k, mul-sub k)
 
   module _ (book big : List ℕ) (q : Asked) where
     -- the hour's readings of the event day and the reference days are k times as large
     abbrev HourTimes : ℕ → Type 0
-    HourTimes h = Every (λ (d : ℕ). Times (readingAt book) (readingAt big) (24 * d + h)) (q .day ∷ q .refs)
+    HourTimes h = Every (λ (d : ℕ). Times (readingAt book) (readingAt big) (hourPlace d h)) (q .day ∷ q .refs)
 
     pub energy-scaled : Every (Times (readingAt book) (readingAt big)) (needed q)
         → energyOf big q
@@ -85,10 +72,10 @@ module _ (k : ℕ) where
     unfolding energyOf needed trimmedAt
     energy-scaled a =
         rw (
-          over-times (trimmedAt book (q .refs)) (trimmedAt big (q .refs)) (q .event) (right _ (q .warm) (q .event) trims),
-          over-times (trimmedAt book (q .refs)) (trimmedAt big (q .refs)) (q .warm) (left _ (q .warm) (q .event) trims),
-          over-times (drawnAt book (q .day)) (drawnAt big (q .day)) (q .warm) (left _ (q .warm) (q .event) own),
-          over-times (drawnAt book (q .day)) (drawnAt big (q .day)) (q .event) (right _ (q .warm) (q .event) own),
+          sum-times k (trimmedAt book (q .refs)) (trimmedAt big (q .refs)) (q .event) (right _ (q .warm) (q .event) trims),
+          sum-times k (trimmedAt book (q .refs)) (trimmedAt big (q .refs)) (q .warm) (left _ (q .warm) (q .event) trims),
+          sum-times k (drawnAt book (q .day)) (drawnAt big (q .day)) (q .warm) (left _ (q .warm) (q .event) own),
+          sum-times k (drawnAt book (q .day)) (drawnAt big (q .day)) (q .event) (right _ (q .warm) (q .event) own),
         )
       where
         hours : Every HourTimes (q .warm ++ q .event)

@@ -1,9 +1,10 @@
 -- What an event asks of a book, by winter, masks and notice alone: its day, its warm-up and event hours, and its reference days.
 -- Assumes nothing.
-use Prim.Native.Nat.{ℕ, zero, suc, _+_, _-_, _*_}
+use Prim.Native.Nat.{ℕ, _-_}
 use mathlib.Core.Bool.{cond}
-use mathlib.Core.List.{List, [], _∷_, _++_, map}
+use mathlib.Core.List.{List, _∷_, _++_}
 use lib.Dec.{ltb}
+use Rattle.book.specs.Places.{hoursFrom, placesOn}
 use Rattle.calendar.specs.declared.answers.Winter.{Winter}
 use Rattle.notices.specs.Profiles.{credit}
 use Rattle.notices.specs.declared.notices.Notice.{Notice}
@@ -15,11 +16,6 @@ pub record Asked : Type 0 where
   pub event : List ℕ
   pub refs : List ℕ
 
--- n hours from h on
-unfoldable pub hoursFrom : ℕ → ℕ → List ℕ
-hoursFrom h zero = []
-hoursFrom h (suc n) = h ∷ hoursFrom (suc h) n
-
 -- "Warm-up hours: for a morning event s-5, s-4, s-3 (W = 3); for an evening event s-4, s-3 (W = 2)."
 unfoldable pub warmUp : ℕ → List ℕ
 warmUp s = cond (ltb s (credit .evening .start)) (hoursFrom (s - 5) 3) (hoursFrom (s - 4) 2)
@@ -27,15 +23,6 @@ warmUp s = cond (ltb s (credit .evening .start)) (hoursFrom (s - 5) 3) (hoursFro
 unfoldable pub askedBy : Winter → List ℕ → Notice → Asked
 askedBy w masks n =
     record { day = n .day; warm = warmUp (n .start); event = hoursFrom (n .start) (n .end - n .start); refs = referenceDays w masks (n .day) }
-
--- the places of some hours of a day: "24 times day plus hour"
-abbrev pub placesOf : ℕ → List ℕ → List ℕ
-placesOf d hours = map (λ (h : ℕ). 24 * d + h) hours
-
--- and of the same hours of each of some days
-unfoldable pub placesOn : List ℕ → List ℕ → List ℕ
-placesOn hours [] = []
-placesOn hours (d ∷ ds) = placesOf d hours ++ placesOn hours ds
 
 -- "Needed readings are looked at in this order ..: event day, its warm-up hours and then its event hours, ascending; then the reference
 -- days, nearest first, each the same way. No other reading is looked at."

@@ -1,21 +1,13 @@
 -- The spared energy of an event: "R is the sum of T over the event hours, B the sum of T over the warm-up hours, A and C the event day's
 -- own readings over warm-up and event hours."
 -- Assumes nothing.
-use Prim.Native.Nat.{ℕ, _+_, _*_}
-use mathlib.Core.List.{List, [], _∷_, map}
+use Prim.Native.Nat.{ℕ}
+use mathlib.Core.List.{List, map}
 use lib.ListN.{length}
+use Rattle.book.specs.Readings.{drawnAt, sumOver}
 use Rattle.energy.specs.Asked.{Asked}
-use Rattle.energy.specs.Readings.{readingAt}
 use Rattle.energy.specs.Spared.{sparedOf}
 use Rattle.energy.specs.Trimmed.{trimmedOf}
-
-unfoldable pub sumOver : (ℕ → ℕ) → List ℕ → ℕ
-sumOver f [] = 0
-sumOver f (h ∷ hours) = f h + sumOver f hours
-
--- the day's own reading of an hour
-abbrev pub drawnAt : List ℕ → ℕ → ℕ → ℕ
-drawnAt book day h = readingAt book (24 * day + h)
 
 -- T of an hour
 unfoldable pub trimmedAt : List ℕ → List ℕ → ℕ → ℕ

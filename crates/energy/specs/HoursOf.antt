@@ -3,12 +3,10 @@
 use Prim.Native.Nat.{ℕ, _+_, _-_, _≤_, _<_}
 use mathlib.Core.List.{List}
 use mathlib.Core.Path.{_≡_}
-use Rattle.energy.specs.Asked.{Asked, hoursFrom, warmUp}
+use Rattle.book.specs.Length.{dayHours}
+use Rattle.book.specs.Places.{hoursFrom, run}
+use Rattle.energy.specs.Asked.{Asked, warmUp}
 use Rattle.energy.specs.declared.hours.Hours.{Hours}
-
--- the hours from one up to another
-unfoldable pub run : ℕ → ℕ → List ℕ
-run from to = hoursFrom from (to - from)
 
 abbrev pub warmRun : Hours → List ℕ
 warmRun hours = run (hours .warm) (hours .pause)
@@ -30,10 +28,10 @@ pub record Spans (start end : ℕ) : Type 0 where
 -- what the private functions ask of hours: they lie in the day, two warm-up hours at least and four event hours at most
 pub record HoursIn (hours : Hours) : Type 0 where
   pub two-warm : hours .warm + 2 ≤ hours .pause
-  pub warm-in : hours .pause ≤ 24
+  pub warm-in : hours .pause ≤ dayHours
   pub in-order : hours .start ≤ hours .end
   pub few-event : hours .end ≤ hours .start + 4
-  pub event-in : hours .end ≤ 24
+  pub event-in : hours .end ≤ dayHours
 
 pub record HoursFor (start end : ℕ) (r : Hours) : Type 0 where
   pub warm-are : warmRun r ≡ warmUp start

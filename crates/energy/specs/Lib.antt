@@ -1,10 +1,9 @@
 pub mod ReferenceDays
 pub mod Asked
-pub mod Readings
 pub mod Trimmed
 pub mod Spared
 pub mod Energy
-pub mod Held
+pub mod Search
 pub mod HoursOf
 pub mod Line
 pub mod Parts

@@ -1,10 +1,14 @@
 -- The line of an event: code, place and energy.
 -- Assumes nothing.
-use Prim.Native.Nat.{ℕ, _*_}
+use Prim.Native.Nat.{ℕ}
 use mathlib.Core.Bool.{not}
 use mathlib.Core.List.{List, [], _∷_}
-use lib.Dec.{ltb, eqb}
+use lib.Dec.{ltb}
 use lib.ListN.{length}
+use Rattle.book.specs.Length.{wrongLength}
+use Rattle.book.specs.Readings.{firstFault}
+use Rattle.book.specs.declared.values.Fault.{Fault}
+use Rattle.book.specs.declared.values.Fault.the-variants.{Clean, Missing, TooLarge}
 use Rattle.calendar.specs.Days.{wrongWinter, inPeriod}
 use Rattle.calendar.specs.declared.answers.Winter.{Winter}
 use Rattle.laws.specs.Answer.{Answer, given, refusal, refuse}
@@ -14,11 +18,8 @@ use Rattle.notices.specs.declared.notices.Notice.{Notice}
 use Rattle.notices.specs.declared.profiles.Profile.the-variants.{Credit}
 use Rattle.energy.specs.Asked.{Asked, askedBy, needed}
 use Rattle.energy.specs.Energy.{energyOf}
-use Rattle.energy.specs.Readings.{firstFault}
 use Rattle.energy.specs.declared.lines.Line.{Line}
 use Rattle.energy.specs.declared.lines.Line.the-variants as LineCase
-use Rattle.energy.specs.declared.readings.Fault.{Fault}
-use Rattle.energy.specs.declared.readings.Fault.the-variants.{Clean, Missing, TooLarge}
 
 -- a line on paper: code, place, energy. "An unsettled line has energy 0."
 abbrev pub settled : ℕ → Answer
@@ -52,7 +53,7 @@ lineOf book q = refuse (ltb (length (q .refs)) 5) (unsettled 20 0) (byFault (fir
 unfoldable pub eventAnswer : Winter → List ℕ → List ℕ → Notice → Answer
 eventAnswer w book masks n =
     refuse (wrongWinter w) (refusal 1)
-    (refuse (not (eqb (length book) (24 * w .days))) (refusal 2)
+    (refuse (wrongLength (w .days) (length book)) (refusal 2)
     (refuse (not (inPeriod w (n .day))) (refusal 10)
     (refuse (badHours (figuresOf Credit) n) (refusal 13)
     (lineOf book (askedBy w masks n)))))

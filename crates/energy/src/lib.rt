@@ -1,7 +1,7 @@
 // What was spared: from the readings of a book to the spared energy of an event.
 mod hours;
 mod lines;
-mod readings;
+mod needed;
 mod reference_days;
 mod spared;
 mod sums;

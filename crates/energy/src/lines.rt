@@ -1,25 +1,22 @@
 // The line of one event, by the parts of its six days.
 ghost use mathlib.Core.Path.{_≡_};
-ghost use mathlib.Core.Bool.{false, not};
+ghost use mathlib.Core.Bool.{false};
 ghost use mathlib.Core.List.{[], _∷_};
-ghost use Prim.Native.Nat.{_*_};
-ghost use lib.Dec.{eqb};
 ghost use lib.ListN.{length};
-ghost use Rattle.calendar.specs.Book.{noPart};
+ghost use Rattle.book.specs.Part.{noPart, PartOf};
 ghost use Rattle.calendar.specs.Weekdays.{weekend};
 ghost use Rattle.energy.specs.Asked.{askedBy};
-ghost use Rattle.energy.specs.Held.{OnDay};
+ghost use Rattle.energy.specs.Search.{OnDay};
 ghost use Rattle.energy.specs.HoursOf.{Spans, HoursIn, askedIn};
 ghost use Rattle.energy.specs.Line.{linePaper, byFault, lineOf, eventAnswer};
-ghost use Rattle.energy.specs.Parts.{Six, Days, SixDays, partsEnergy, partsLine};
+ghost use Rattle.energy.specs.Parts.{Days, SixDays, partsEnergy, partsLine};
 use crate::hours::Hours;
 use crate::hours::hours_of;
-use crate::readings::Fault;
-use crate::readings::first_fault;
+use crate::needed::needed_fault;
 use crate::reference_days::nearest;
 use crate::spared::spared;
-use crate::sums::drawn_sum;
 use crate::sums::trimmed_sum;
+use book::Fault;
 use calendar::DayKind;
 use calendar::Kind;
 use calendar::Winter;
@@ -48,14 +45,14 @@ fn energy(
     r3: &[u32],
     r4: &[u32],
 ) -> u64
-    requires { ⌜ Six (now event) (now r0) (now r1) (now r2) (now r3) (now r4) × HoursIn hours ⌝ }
+    requires { ⌜ HoursIn hours ⌝ }
     ensures { λ r. ⌜ r ≡ partsEnergy hours (now (event .entry))
         (now (r0 .entry) ∷ now (r1 .entry) ∷ now (r2 .entry) ∷ now (r3 .entry) ∷ now (r4 .entry) ∷ []) ⌝ }
 {
     let r = trimmed_sum(r0, r1, r2, r3, r4, hours.start, hours.end);
     let b = trimmed_sum(r0, r1, r2, r3, r4, hours.warm, hours.pause);
-    let a = drawn_sum(event, hours.warm, hours.pause);
-    let c = drawn_sum(event, hours.start, hours.end);
+    let a = book::sum_of(event, hours.warm, hours.pause);
+    let c = book::sum_of(event, hours.start, hours.end);
     let h = (hours.end - hours.start) as u64;
     let w = (hours.pause - hours.warm) as u64;
     spared(h, w, r, b, a, c)
@@ -84,12 +81,21 @@ fn line_of_parts(
     r3: &[u32],
     r4: &[u32],
 ) -> Line
-    requires { ⌜ Six (now event) (now r0) (now r1) (now r2) (now r3) (now r4) × Days day refs × HoursIn hours ⌝ }
+    requires { ⌜ Days day refs × HoursIn hours ⌝ }
     ensures { λ r. ⌜ linePaper r ≡ partsLine day refs hours (now (event .entry))
         (now (r0 .entry) ∷ now (r1 .entry) ∷ now (r2 .entry) ∷ now (r3 .entry) ∷ now (r4 .entry) ∷ []) ⌝ }
 {
-    let fault = first_fault(day, refs, hours, event, r0, r1, r2, r3, r4);
+    let fault = needed_fault(day, refs, hours, event, r0, r1, r2, r3, r4);
     line_of(fault, energy(hours, event, r0, r1, r2, r3, r4))
+}
+
+// The part of a day that the book has, cut to its 24 readings: then the compiler knows how many there are, and tests for none.
+fn part_of(w: Winter, book: &[u32], day: u32) -> &[u32]
+    requires { ⌜ noPart w (length (now book)) day ≡ false ⌝ }
+    ensures { λ r. ⌜ PartOf (now (book .entry)) day (now r) ⌝ }
+{
+    let part = book::day_readings(w, book, day);
+    &part[0..book::DAY_HOURS]
 }
 
 // The line of an event whose reference days are known: each of the six days is fetched once.
@@ -97,12 +103,12 @@ fn line_of_days(w: Winter, book: &[u32], day: u32, refs: [u32; 5], hours: Hours)
     requires { ⌜ SixDays w (length (now book)) day refs × HoursIn hours ⌝ }
     ensures { λ r. ⌜ linePaper r ≡ lineOf (now (book .entry)) (askedIn day hours refs) ⌝ }
 {
-    let event = calendar::day_readings(w, book, day);
-    let r0 = calendar::day_readings(w, book, refs[0]);
-    let r1 = calendar::day_readings(w, book, refs[1]);
-    let r2 = calendar::day_readings(w, book, refs[2]);
-    let r3 = calendar::day_readings(w, book, refs[3]);
-    let r4 = calendar::day_readings(w, book, refs[4]);
+    let event = part_of(w, book, day);
+    let r0 = part_of(w, book, refs[0]);
+    let r1 = part_of(w, book, refs[1]);
+    let r2 = part_of(w, book, refs[2]);
+    let r3 = part_of(w, book, refs[3]);
+    let r4 = part_of(w, book, refs[4]);
     line_of_parts(day, refs, hours, event, r0, r1, r2, r3, r4)
 }
 
@@ -121,19 +127,12 @@ fn line_in(w: Winter, kind: Kind, book: &[u32], masks: &[u32; 152], n: Notice) -
     line_of_days(w, book, n.day, refs, hours)
 }
 
-// Whether a book of that length is not this winter's.
-fn wrong_book(w: Winter, length: usize) -> bool
-    ensures { λ r. ⌜ r ≡ not (eqb length (24 * w .days)) ⌝ }
-{
-    length != 24 * (w.days as usize)
-}
-
 // Settles an event whose day is a book day of that kind.
 fn settle_on(w: Winter, kind: Kind, book: &[u32], masks: &[u32; 152], n: Notice) -> Line
     requires { ⌜ OnDay w (n .day) kind ⌝ }
     ensures { λ r. ⌜ linePaper r ≡ eventAnswer w (now (book .entry)) (now (masks .entry)) n ⌝ }
 {
-    if wrong_book(w, book.len()) {
+    if book::wrong_length(w.days, book.len()) {
         return Line::BadBook;
     }
     if !kind.period {
@@ -154,7 +153,7 @@ pub fn settle_event(w: Winter, book: &[u32], masks: &[u32; 152], n: Notice) -> L
         DayKind::Is(kind) => settle_on(w, kind, book, masks, n),
         DayKind::NoWinter => Line::NoWinter,
         DayKind::NoDay => {
-            if wrong_book(w, book.len()) {
+            if book::wrong_length(w.days, book.len()) {
                 return Line::BadBook;
             }
             Line::OutsidePeriod

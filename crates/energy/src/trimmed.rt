@@ -12,7 +12,7 @@ fn smaller(a: u32, b: u32) -> u32
 }
 
 // The larger of two numbers.
-fn larger(a: u32, b: u32) -> u32
+pub(crate) fn larger(a: u32, b: u32) -> u32
     ensures { λ r. ⌜ r ≡ max a b ⌝ }
 {
     if a <= b { b } else { a }
@@ -26,7 +26,7 @@ fn smallest(a: u32, b: u32, c: u32, d: u32, e: u32) -> u32
 }
 
 // A largest of five numbers.
-fn largest(a: u32, b: u32, c: u32, d: u32, e: u32) -> u32
+pub(crate) fn largest(a: u32, b: u32, c: u32, d: u32, e: u32) -> u32
     ensures { λ r. ⌜ r ≡ largestOf (a ∷ b ∷ c ∷ d ∷ e ∷ []) ⌝ }
 {
     larger(a, larger(b, larger(c, larger(d, e))))

@@ -3,6 +3,9 @@
 -- Assumes nothing.
 use mathlib.Core.List.{map}
 use mathlib.Core.Path.{_≡_, refl}
+use Rattle.book.specs.Places.{hoursFrom, placesOn}
+use Rattle.book.specs.Readings.{firstFault, sumOver}
+use Rattle.book.specs.Values.{faultOf}
 use Rattle.calendar.specs.Answers.{easterSunday}
 use Rattle.calendar.specs.Easter.{noEasterYear, easterT, easterInBook}
 use Rattle.calendar.specs.Excluded.{among, goodFriday, easterMonday, excluded}
@@ -10,10 +13,9 @@ use Rattle.calendar.specs.Weekdays.{firstWeekday, weekday, weekend}
 use Rattle.dates.specs.Winters.{noWinter, leap, days}
 use Rattle.calendar.specs.Days.{wrongWinter, noDay, inPeriod}
 use Rattle.calendar.specs.WinterOf.{winterOf}
-use Rattle.energy.specs.Asked.{hoursFrom, warmUp, askedBy, placesOn, needed}
-use Rattle.energy.specs.Energy.{sumOver, trimmedAt, energyOf}
+use Rattle.energy.specs.Asked.{warmUp, askedBy, needed}
+use Rattle.energy.specs.Energy.{trimmedAt, energyOf}
 use Rattle.energy.specs.Line.{lineOf, eventAnswer}
-use Rattle.energy.specs.Readings.{faultOf, firstFault}
 use Rattle.energy.specs.ReferenceDays.{serves, before, referenceDays}
 use Rattle.energy.specs.Spared.{trialOf, aboveLimit, sparedOf}
 use Rattle.energy.specs.Trimmed.{sumOf, smallestOf, largestOf, trimmedOf}

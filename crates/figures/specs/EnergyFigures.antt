@@ -3,8 +3,8 @@
 use Prim.Native.Nat.{ℕ, _*_}
 use mathlib.Core.List.{List, [], _∷_, _++_}
 use lib.ListN.{replicate}
+use Rattle.book.specs.Values.{missingMark}
 use Rattle.calendar.specs.WinterOf.{winterOf}
-use Rattle.energy.specs.Readings.{missingMark}
 use Rattle.energy.specs.ReferenceDays.{referenceDays}
 use Rattle.energy.specs.Spared.{sparedOf}
 use Rattle.event_hours.specs.Days.{masksOf}

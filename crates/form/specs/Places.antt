@@ -2,10 +2,11 @@
 -- "31: a read line not after the one before, or outside the book or day; place is the line".
 -- "Each read line starts at or after the end of the one before."
 -- Assumes nothing.
-use Prim.Native.Nat.{ℕ, zero, suc, _+_, _*_}
+use Prim.Native.Nat.{ℕ, zero, suc, _+_}
 use mathlib.Core.Bool.{Bool, cond, _||_}
 use mathlib.Core.List.{List}
 use lib.Dec.{ltb, leb}
+pub use Rattle.book.specs.Places.{hourPlace}
 use Rattle.dates.specs.Winters.{noWinter, days}
 use Rattle.form.specs.Lines.{afterReading, afterLines, readLineAt, readLines}
 use Rattle.form.specs.declared.lines.Placed.{Placed}
@@ -14,10 +15,6 @@ use Rattle.form.specs.declared.lines.Placed.the-variants as placed
 -- the days of a winter's book; a text of no winter is refused with 1 before 31 is looked at, so that any number would do for it
 unfoldable pub bookDays : ℕ → ℕ
 bookDays winter = cond (noWinter winter) 0 (days winter)
-
--- the place of an hour in the book
-abbrev pub hourPlace : ℕ → ℕ → ℕ
-hourPlace day hour = 24 * day + hour
 
 -- a line of so many values from an hour of a day on, where the book has so many days and the line before ends before place `end`
 unfoldable pub misplaced : ℕ → ℕ → ℕ → ℕ → ℕ → Bool

@@ -21,7 +21,7 @@ pub(crate) fn place_of(day: u32, hour: u32) -> usize
     ensures { λ r. ⌜ r ≡ hourPlace day hour ⌝ }
     ensures { λ r. ⌜ r ≤ 107374182375 ⌝ }
 {
-    24 * (day as usize) + hour as usize
+    book::hour_place(day, hour)
 }
 
 // 31: a read line is outside the book or the day, or starts before the end of the one before.

@@ -5,7 +5,7 @@ use mathlib.Core.List.{List, []}
 use mathlib.Core.Path.{_≡_, ap, sym, _∙_}
 use Rattle.calendar.proofs.OneOutcome.{no-winter-known, winter-known}
 use Rattle.calendar.specs.Answers.{knownPaper, winterFacts}
-use Rattle.calendar.specs.Book.{dayReadings}
+use Rattle.book.specs.Part.{dayReadings}
 use Rattle.calendar.specs.declared.answers.Known.the-variants.{Is, NoWinter}
 use Rattle.calendar.specs.declared.answers.Known.{Known}
 use Rattle.calendar.specs.declared.answers.Winter.{Winter}

@@ -4,7 +4,7 @@ use Prim.Native.Nat.{ℕ, _+_, _*_}
 use mathlib.Core.Bool.{cond}
 use mathlib.Core.List.{List, [], _∷_}
 use lib.ListN.{getD}
-use Rattle.calendar.specs.Book.{dayReadings}
+use Rattle.book.specs.Part.{dayReadings}
 use Rattle.calendar.specs.WinterOf.{winterOf}
 use Rattle.calendar.specs.declared.answers.Winter.{Winter}
 use Rattle.dates.specs.Winters.{noWinter}

@@ -114,7 +114,7 @@ pub extern "C" fn probe_part_length(winter: u32, book: &[u32], day: u32) -> usiz
     let Known::Is(w) = known else {
         return 0;
     };
-    let part = calendar::day_readings(w, book, day);
+    let part = book::day_readings(w, book, day);
     part.len()
 }
 
@@ -127,7 +127,7 @@ pub extern "C" fn probe_part_reading(winter: u32, book: &[u32], day: u32, hour: 
     let Known::Is(w) = known else {
         return 0;
     };
-    let part = calendar::day_readings(w, book, day);
+    let part = book::day_readings(w, book, day);
     if part.len() <= hour {
         return 0;
     }

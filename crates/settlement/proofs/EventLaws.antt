@@ -1,10 +1,11 @@
 -- Laws of the events of a list: none is larger than the largest energy, of a list that stands each is the event of its notice, and a lawful
 -- notice has a line.
 -- Assumes nothing.
-use Prim.Native.Nat.{ℕ, _*_, _≤_, _<_}
+use Prim.Native.Nat.{ℕ, _≤_, _<_}
 use mathlib.Core.List.{List, [], _∷_}
 use mathlib.Core.Path.{_≡_}
 use lib.ListN.{length}
+use Rattle.book.specs.Length.{bookLength}
 use Rattle.calendar.specs.WinterOf.{winterOf}
 use Rattle.calendar.specs.declared.answers.Winter.{Winter}
 use Rattle.dates.specs.Winters.{days}
@@ -34,7 +35,7 @@ unfolding eventIn eventAt
 same-event st book k h = rw (event-back st k h)
 
 -- a notice that is lawful by itself is given its line
-pub event-line : (y : ℕ) (book l : List ℕ) (k : ℕ) → length book ≡ 24 * days y → Sound y (figuresOf Credit) (noticeAt l k)
+pub event-line : (y : ℕ) (book l : List ℕ) (k : ℕ) → length book ≡ bookLength (days y) → Sound y (figuresOf Credit) (noticeAt l k)
     → eventAnswer (winterOf y) book (masksOf l) (noticeAt l k)
     ≡ given (eventAt y book l k .code ∷ eventAt y book l k .place ∷ eventAt y book l k .energy ∷ [])
 unfolding eventAt

@@ -11,7 +11,8 @@ use lib.Seq.{sets}
 use borrow.Author.Tests.{eq-eqb, ne-eqb, lt-ltb, le-ltb}
 use Rattle.dates.proofs.Promise.{days-two}
 use Rattle.dates.specs.Winters.{noWinter, days}
-use Rattle.energy.specs.Readings.{missingMark}
+use Rattle.book.specs.Length.{bookLength, mostReadings}
+use Rattle.book.specs.Values.{missingMark}
 use Rattle.form.proofs.Formed.{book-once}
 use Rattle.form.specs.Form.{formOf}
 use Rattle.form.specs.Said.{eventsOf, bookRead}
@@ -109,12 +110,13 @@ module _ (s : List ℕ) (f : Shape) where
     values-settled g z book filled b h = rw (e, z, h, book-once s f g book, b)
 
 -- the book of a right winter, cut from one of 152 days
-pub book-fits : (w n : ℕ) → n ≡ days w → 24 * n ≤ 3648
+pub book-fits : (w n : ℕ) → n ≡ days w → bookLength n ≤ mostReadings
 book-fits w n e = ⊎-elim (λ d. omega (arith, e, d)) (λ d. omega (arith, e, d)) (days-two w)
 
-pub winter-book : (w n : ℕ) → n ≡ days w → take (24 * n) (replicate 3648 missingMark) ≡ noReadings w
-winter-book w n e =
-    take-replicate (24 * n) 3648 missingMark (book-fits w n e) ∙ ap (λ (k : ℕ). replicate (24 * k) missingMark) e
+pub winter-book : (w n hours : ℕ) → n ≡ days w → hours ≡ bookLength n → take hours (replicate mostReadings missingMark) ≡ noReadings w
+winter-book w n hours e long =
+    ap (λ (k : ℕ). take k (replicate mostReadings missingMark)) long
+    ∙ take-replicate (bookLength n) mostReadings missingMark (book-fits w n e) ∙ ap (λ (k : ℕ). replicate (bookLength k) missingMark) e
 
 -- the list that was filled with just the room for it
 pub list-filled : (s list : List ℕ) (at events : ℕ) → length (eventsOf events s at) ≡ 3 * events → length list ≡ 3 * events

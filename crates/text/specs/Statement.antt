@@ -6,8 +6,9 @@ use mathlib.Core.Bool.{Bool, cond}
 use mathlib.Core.List.{List, _++_}
 use lib.Dec.{ltb, eqb}
 use lib.ListN.{length, drop, replicate}
+use Rattle.book.specs.Length.{bookLength}
+use Rattle.book.specs.Values.{missingMark}
 use Rattle.dates.specs.Winters.{noWinter, days}
-use Rattle.energy.specs.Readings.{missingMark}
 use Rattle.form.specs.Form.{formOf}
 use Rattle.form.specs.Said.{eventsOf, bookOf}
 use Rattle.form.specs.declared.whole.Form.{Form}
@@ -23,7 +24,7 @@ mostBytes = 65536
 
 -- "Unlisted hours are missing.": the book of a winter before a reading is put into it
 abbrev pub noReadings : ℕ → List ℕ
-noReadings w = replicate (24 * days w) missingMark
+noReadings w = replicate (bookLength (days w)) missingMark
 
 -- an output with just the room for the lines of a list: four numbers a notice
 abbrev pub roomFor : List ℕ → ℕ

@@ -39,8 +39,8 @@ fn print_formed(text: &[u8], shape: Shape, out: &mut [u8]) -> usize
     if line != 0 {
         return refuse(31, line as u64, out);
     }
-    let hours = 24 * (days as usize);
-    let mut book = [4_294_967_295u32; 3648];
+    let hours = book::length_of(days);
+    let mut book = [book::MISSING_MARK; book::MOST_READINGS];
     print_read(text, shape, &mut book[..hours], out)
 }
 

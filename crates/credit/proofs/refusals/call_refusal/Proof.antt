@@ -19,53 +19,62 @@ enum-told c = search needs
 returns : tie.Need-returns
 returns c = winter-refused _ _ _ _ _ (no-winter _ _ (c .enum-told .given .1) (c .before .before .winter-days .ensures))
 
-cast-if1 : tie.Need-cast-if1
-cast-if1 c = search needs
-
-mul-if1 : tie.Need-mul-if1
-mul-if1 c = search needs
+wrong-length-requires : tie.Need-wrong-length-requires
+wrong-length-requires c κs = search needs
 
 returns-2 : tie.Need-returns-2
 returns-2 c =
-    let w = c .before .before in
-    book-refused _ _ _ _ _ _ _ (w .days .given .1) (w .before .before .winter-days .ensures) (c .if1 .taken)
+    let book = c .before in
+    let winter = book .before .before in
+    book-refused _ _ _ _ _ _ _ (winter .days .given .1) (winter .before .before .winter-days .ensures) (found (book .wrong-length .ensures) (c .if1 .taken))
 
 bad-price-requires : tie.Need-bad-price-requires
 bad-price-requires c κs = search needs
 
 returns-3 : tie.Need-returns-3
 returns-3 c =
-    let w = c .before .before .before .before in
-    price-refused _ _ _ _ _ _ _ (w .days .given .1) (w .before .before .winter-days .ensures) (c .before .before .if1 .left) (found (c .before .bad-price .ensures) (c .if2 .taken))
+    let price = c .before in
+    let book = price .before .before in
+    let winter = book .before .before in
+    price-refused _ _ _ _ _ _ _ (winter .days .given .1) (winter .before .before .winter-days .ensures) (found (book .wrong-length .ensures) (price .before .if1 .left))
+    (found (price .bad-price .ensures) (c .if2 .taken))
 
 bad-list-requires : tie.Need-bad-list-requires
 bad-list-requires c κs = search needs
 
 returns-4 : tie.Need-returns-4
 returns-4 c =
-    let w = c .before .before .before .before .before .before in
-    let m = c .before .before in
-    list-refused _ _ _ _ _ _ _ (w .days .given .1) (w .before .before .winter-days .ensures) (m .before .before .if1 .left) (found (m .before .bad-price .ensures) (m .if2 .left))
-    (found (c .before .bad-list .ensures) (c .if3 .taken))
+    let list = c .before in
+    let price = list .before .before in
+    let book = price .before .before in
+    let winter = book .before .before in
+    list-refused _ _ _ _ _ _ _ (winter .days .given .1) (winter .before .before .winter-days .ensures) (found (book .wrong-length .ensures) (price .before .if1 .left))
+    (found (price .bad-price .ensures) (list .before .if2 .left)) (found (list .bad-list .ensures) (c .if3 .taken))
 
 short-output-requires : tie.Need-short-output-requires
 short-output-requires c κs = search needs
 
 returns-5 : tie.Need-returns-5
 returns-5 c =
-    let w = c .before .before .before .before .before .before .before .before in
-    let m = c .before .before .before .before in
-    let l = c .before .before in
-    output-refused _ _ _ _ _ _ _ (w .days .given .1) (w .before .before .winter-days .ensures) (m .before .before .if1 .left) (found (m .before .bad-price .ensures) (m .if2 .left))
-    (found (l .before .bad-list .ensures) (l .if3 .left)) (found (c .before .short-output .ensures) (c .if4 .taken))
+    let output = c .before in
+    let list = output .before .before in
+    let price = list .before .before in
+    let book = price .before .before in
+    let winter = book .before .before in
+    output-refused _ _ _ _ _ _ _ (winter .days .given .1) (winter .before .before .winter-days .ensures) (found (book .wrong-length .ensures) (price .before .if1 .left))
+    (found (price .bad-price .ensures) (list .before .if2 .left)) (found (list .bad-list .ensures) (output .before .if3 .left))
+    (found (output .short-output .ensures) (c .if4 .taken))
 
 returns-6 : tie.Need-returns-6
 returns-6 c =
-    let w = c .before .before .before .before .before .before .before .before in
-    let m = c .before .before .before .before in
-    let l = c .before .before in
-    none-refused _ _ _ _ _ _ _ (w .days .given .1) (w .before .before .winter-days .ensures) (m .before .before .if1 .left) (found (m .before .bad-price .ensures) (m .if2 .left))
-    (found (l .before .bad-list .ensures) (l .if3 .left)) (found (c .before .short-output .ensures) (c .if4 .left))
+    let output = c .before in
+    let list = output .before .before in
+    let price = list .before .before in
+    let book = price .before .before in
+    let winter = book .before .before in
+    none-refused _ _ _ _ _ _ _ (winter .days .given .1) (winter .before .before .winter-days .ensures) (found (book .wrong-length .ensures) (price .before .if1 .left))
+    (found (price .bad-price .ensures) (list .before .if2 .left)) (found (list .bad-list .ensures) (output .before .if3 .left))
+    (found (output .short-output .ensures) (c .if4 .left))
 
 pub call-refusal-spec : {M : Type 1} → statement M
 call-refusal-spec =
@@ -75,8 +84,7 @@ call-refusal-spec =
     enum-known-days
     enum-told
     returns
-    cast-if1
-    mul-if1
+    wrong-length-requires
     returns-2
     bad-price-requires
     returns-3

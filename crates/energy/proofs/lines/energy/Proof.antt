@@ -11,11 +11,11 @@ trimmed-sum-requires c κs = search needs
 trimmed-sum-requires-2 : tie.Need-trimmed-sum-requires-2
 trimmed-sum-requires-2 c κs = search needs
 
-drawn-sum-requires : tie.Need-drawn-sum-requires
-drawn-sum-requires c κs = search needs
+sum-of-requires : tie.Need-sum-of-requires
+sum-of-requires c κs = search needs
 
-drawn-sum-requires-2 : tie.Need-drawn-sum-requires-2
-drawn-sum-requires-2 c κs = search needs
+sum-of-requires-2 : tie.Need-sum-of-requires-2
+sum-of-requires-2 c κs = search needs
 
 sub-h : tie.Need-sub-h
 sub-h c = search needs
@@ -37,7 +37,7 @@ unfolding partsEnergy
 returns c =
     let sums = c .before .before .before in
     let trims = sums .before .before in
-    rw (← sums .drawn-sum2 .ensures .0, ← sums .before .drawn-sum .ensures .0, ← trims .trimmed-sum2 .ensures .0, ← trims .before .trimmed-sum .ensures .0)
+    rw (← sums .sum-of2 .ensures .is, ← sums .before .sum-of .ensures .is, ← trims .trimmed-sum2 .ensures .0, ← trims .before .trimmed-sum .ensures .0)
     (c .spared .ensures)
 
 pub energy-spec : {M : Type 1} → statement M
@@ -46,8 +46,8 @@ energy-spec =
     (tie.spec
     trimmed-sum-requires
     trimmed-sum-requires-2
-    drawn-sum-requires
-    drawn-sum-requires-2
+    sum-of-requires
+    sum-of-requires-2
     sub-h
     cast-h
     sub-w

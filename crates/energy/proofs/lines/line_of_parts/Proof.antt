@@ -5,8 +5,8 @@ use Rattle.energy.specs.Parts.{partsLine}
 use Rattle.energy.proofs.lines.line_of_parts.Statement.{statement}
 use Rattle.energy.proofs.lines.line_of_parts.Tie as tie
 
-first-fault-requires : tie.Need-first-fault-requires
-first-fault-requires c κs = search needs
+needed-fault-requires : tie.Need-needed-fault-requires
+needed-fault-requires c κs = search needs
 
 energy-requires : tie.Need-energy-requires
 energy-requires c κs = search needs
@@ -16,8 +16,8 @@ line-of-requires c κs = search needs
 
 returns : tie.Need-returns
 unfolding partsLine
-returns c = rw (← c .before .energy .ensures, ← c .before .before .first-fault .ensures) (c .line-of .ensures)
+returns c = rw (← c .before .energy .ensures, ← c .before .before .needed-fault .ensures) (c .line-of .ensures)
 
 pub line-of-parts-spec : {M : Type 1} → statement M
 line-of-parts-spec =
-    tie.close (tie.spec first-fault-requires energy-requires line-of-requires returns)
+    tie.close (tie.spec needed-fault-requires energy-requires line-of-requires returns)

@@ -25,15 +25,15 @@ enum-told c = search needs
 enum-told-2 : tie.Need-enum-told-2
 enum-told-2 c = search needs
 
-wrong-book-requires : tie.Need-wrong-book-requires
-wrong-book-requires c κs = search needs
+wrong-length-requires : tie.Need-wrong-length-requires
+wrong-length-requires c κs = search needs
 
 returns : tie.Need-returns
 unfolding eventAnswer
 returns c =
     let past = c .before .before in
     let told = told-past _ _ _ (past .enum-told2 .given .1) (past .before .before .kind-of .ensures) in
-    kept _ (told .0) (refused _ _ (found (c .before .wrong-book .ensures) (c .if1 .taken)))
+    kept _ (told .0) (refused _ _ (found (c .before .wrong-length .ensures) (c .if1 .taken)))
 
 returns-2 : tie.Need-returns-2
 returns-2 c = search needs
@@ -47,7 +47,7 @@ unfolding eventAnswer
 returns-4 c =
     let past = c .before .before in
     let told = told-past _ _ _ (past .enum-told2 .given .1) (past .before .before .kind-of .ensures) in
-    kept _ (told .0) (kept _ (found (c .before .wrong-book .ensures) (c .if1 .left)) (refused _ _ (told .1)))
+    kept _ (told .0) (kept _ (found (c .before .wrong-length .ensures) (c .if1 .left)) (refused _ _ (told .1)))
 
 pub settle-event-spec : {M : Type 1} → statement M
 settle-event-spec =
@@ -58,7 +58,7 @@ settle-event-spec =
     settle-on-requires
     enum-told
     enum-told-2
-    wrong-book-requires
+    wrong-length-requires
     returns
     returns-2
     returns-3

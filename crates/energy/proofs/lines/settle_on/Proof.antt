@@ -1,8 +1,7 @@
 -- `settle_on` refuses with 2, 10 and 13, in this order, and answers by the line where none holds: the day's part is then in the
 -- book, and the hours lie in a band.
 -- Assumes nothing.
-use borrow.Author.Tests.{eqb-true, not-false}
-use Rattle.calendar.proofs.BookLaws.{part-there}
+use Rattle.book.proofs.PartLaws.{part-there}
 use Rattle.laws.proofs.Guards.{found}
 use Rattle.laws.proofs.Refusals.{refused, kept}
 use Rattle.energy.specs.Line.{eventAnswer}
@@ -11,19 +10,19 @@ use borrow.Author.Needs.{needs}
 use Rattle.energy.proofs.lines.settle_on.Statement.{statement}
 use Rattle.energy.proofs.lines.settle_on.Tie as tie
 
-wrong-book-requires : tie.Need-wrong-book-requires
-wrong-book-requires c κs = search needs
+wrong-length-requires : tie.Need-wrong-length-requires
+wrong-length-requires c κs = search needs
 
 returns : tie.Need-returns
 unfolding eventAnswer
-returns c = kept _ (c .before .before .before .pre .day .right) (refused _ _ (found (c .before .wrong-book .ensures) (c .if1 .taken)))
+returns c = kept _ (c .before .before .before .pre .day .right) (refused _ _ (found (c .before .wrong-length .ensures) (c .if1 .taken)))
 
 returns-2 : tie.Need-returns-2
 unfolding eventAnswer
 returns-2 c =
     let book = c .before .before in
     let day = book .before .before .before .pre in
-    kept _ (day .day .right) (kept _ (found (book .before .wrong-book .ensures) (book .if1 .left)) (refused _ _ (rw (← day .period) (c .if2 .taken))))
+    kept _ (day .day .right) (kept _ (found (book .before .wrong-length .ensures) (book .if1 .left)) (refused _ _ (rw (← day .period) (c .if2 .taken))))
 
 figures-requires : tie.Need-figures-requires
 figures-requires c κs = search needs
@@ -38,7 +37,7 @@ returns-3 c =
     let book = period .before .before in
     let day = book .before .before .before .pre in
     kept _ (day .day .right)
-    (kept _ (found (book .before .wrong-book .ensures) (book .if1 .left))
+    (kept _ (found (book .before .wrong-length .ensures) (book .if1 .left))
     (kept _ (rw (← day .period) (period .if2 .left))
     (refused _ _ (rw (← c .before .before .figures .ensures) (found (c .before .bad-hours .ensures) (c .if3 .taken))))))
 
@@ -46,7 +45,7 @@ line-in-requires : tie.Need-line-in-requires
 line-in-requires c κs =
     let book = c .before .before .before .before .before in
     let day = book .before .before .before .pre in
-    let whole = eqb-true _ _ (not-false _ (found (book .before .wrong-book .ensures) (book .if1 .left))) in (
+    let whole = found (book .before .wrong-length .ensures) (book .if1 .left) in (
       part-there _ _ _ (day .day .right) whole (day .day .there),
       day .week,
       in-band _ _ (c .before .before .figures .ensures) (found (c .before .bad-hours .ensures) (c .if3 .left)),
@@ -60,7 +59,7 @@ returns-4 c =
     let book = period .before .before in
     let day = book .before .before .before .pre in
     kept _ (day .day .right)
-    (kept _ (found (book .before .wrong-book .ensures) (book .if1 .left))
+    (kept _ (found (book .before .wrong-length .ensures) (book .if1 .left))
     (kept _ (rw (← day .period) (period .if2 .left))
     (kept _ (rw (← hours .before .before .figures .ensures) (found (hours .before .bad-hours .ensures) (hours .if3 .left))) (c .line-in .ensures))))
 
@@ -68,7 +67,7 @@ pub settle-on-spec : {M : Type 1} → statement M
 settle-on-spec =
     tie.close
     (tie.spec
-    wrong-book-requires
+    wrong-length-requires
     returns
     returns-2
     figures-requires

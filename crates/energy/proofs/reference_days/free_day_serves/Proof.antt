@@ -2,7 +2,7 @@
 -- Assumes nothing.
 use mathlib.Core.Logic.{inl, inr}
 use Rattle.calendar.proofs.OneOutcome.{day-known}
-use Rattle.energy.specs.Held.{freeServes}
+use Rattle.energy.specs.Search.{freeServes}
 use Rattle.energy.proofs.KindLaws.{never-past}
 use borrow.Author.Needs.{needs}
 use Rattle.energy.proofs.reference_days.free_day_serves.Statement.{statement}

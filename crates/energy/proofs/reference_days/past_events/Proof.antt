@@ -1,21 +1,19 @@
 -- `past_events` walks back over days that carry an event. The invariant: from d on it comes to the same day.
 -- Assumes nothing.
-use Prim.Native.Nat.{_≤_}
-use mathlib.Core.Path.{_≡_, refl, _∙_}
+use mathlib.Core.Path.{refl}
 use native.Mathlib.Omega.{arith}
-use Rattle.energy.specs.Held.{pastEvents}
-use Rattle.energy.proofs.ReferenceLaws.{past-here, past-next, past-none}
+use Rattle.energy.proofs.ReferenceLaws.{Onward, onward-here, onward-none, onward-next}
 use Rattle.energy.proofs.reference_days.past_events.Statement.{statement}
 use Rattle.energy.proofs.reference_days.past_events.Tie as tie
 
 abbrev Inv-loop : tie.InvT-loop
-Inv-loop masks day d₀ d = (d ≤ day) × (pastEvents masks d ≡ pastEvents masks day)
+Inv-loop masks day d₀ d = Onward masks day d
 
 abbrev μ-loop : tie.MeasureT-loop
 μ-loop masks day d₀ d = d
 
 loop-holds : tie.Need-loop-holds Inv-loop μ-loop
-loop-holds c = (omega arith, refl)
+loop-holds c = record { within = omega arith; same = refl }
 
 sub-if1 : tie.Need-sub-if1 Inv-loop μ-loop
 sub-if1 c = omega arith
@@ -31,8 +29,9 @@ element-copy-out-if1 c = omega arith
 
 returns : tie.Need-returns Inv-loop μ-loop
 returns c =
-    let l = c .before .before .before .loop in
-    past-here _ (l .d) (omega arith) (c .if1 .taken) ∙ l .inv .1
+    let in-loop = c .before .before in
+    let turn = in-loop .before .loop in
+    onward-here _ _ (turn .d) (turn .inv) (in-loop .loop-test .taken) (c .if1 .taken)
 
 sub-d : tie.Need-sub-d Inv-loop μ-loop
 sub-d c = omega arith
@@ -42,13 +41,14 @@ loop-less c = omega arith
 
 loop-again : tie.Need-loop-again Inv-loop μ-loop
 loop-again c =
-    let l = c .before .before .before .loop in
-    (omega arith, past-next _ (l .d) (omega arith) (c .if1 .left) ∙ l .inv .1)
+    let in-loop = c .before .before in
+    let turn = in-loop .before .loop in
+    onward-next _ _ (turn .d) (turn .inv) (in-loop .loop-test .taken) (c .if1 .left)
 
 returns-2 : tie.Need-returns-2 Inv-loop μ-loop
 returns-2 c =
-    let l = c .before .loop in
-    past-none _ (l .d) (omega arith) ∙ l .inv .1
+    let turn = c .before .loop in
+    onward-none _ _ (turn .d) (turn .inv) (omega arith)
 
 pub past-events-spec : {M : Type 1} → statement M
 past-events-spec =

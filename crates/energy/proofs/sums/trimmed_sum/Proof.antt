@@ -5,10 +5,11 @@ use Prim.Native.Nat.{_+_, _-_, _*_, _^_, _≤_}
 use mathlib.Core.List.{[], _∷_}
 use mathlib.Core.Path.{_≡_}
 use native.Mathlib.Omega.{arith}
-use Rattle.energy.specs.Energy.{sumOver}
-use Rattle.energy.specs.HoursOf.{run}
+use Rattle.book.proofs.SumLaws.{sum-more, sum-none}
+use Rattle.book.specs.Places.{run}
+use Rattle.book.specs.Readings.{sumOver}
 use Rattle.energy.specs.Parts.{trimmedIn}
-use Rattle.energy.proofs.PartLaws.{sum-more, sum-none, trimmed-hour}
+use Rattle.energy.proofs.PartLaws.{trimmed-hour}
 use borrow.Author.Needs.{needs}
 use Rattle.energy.proofs.sums.trimmed_sum.Statement.{statement}
 use Rattle.energy.proofs.sums.trimmed_sum.Tie as tie

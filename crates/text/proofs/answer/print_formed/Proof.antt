@@ -43,28 +43,30 @@ returns-2 c =
     let w = is-winter _ _ _ (c .before .before .before .before .before .before .days .given .1) (t .winter-days .ensures) in
     prints-same (s .args .out .now) (misplaced-refused (s .args .text .now) (s .args .shape) w (c .before .before .before .before .if1 .taken)) (c .before .before .refuse2 .ensures)
 
-cast-hours : tie.Need-cast-hours
-cast-hours c = search needs
-
-mul-hours : tie.Need-mul-hours
-mul-hours c = search needs
+length-of-requires : tie.Need-length-of-requires
+length-of-requires c κs = search needs
 
 array-borrow-prefix-book : tie.Need-array-borrow-prefix-book
 array-borrow-prefix-book c =
-    book-fits _ _ (winter-count _ _ _ (c .before .before .days .given .1) (c .before .before .before .before .winter-days .ensures))
+    let known = c .before .before .before in
+    let fits = book-fits _ _ (winter-count _ _ _ (known .days .given .1) (known .before .before .winter-days .ensures)) in
+    omega arith
 
 slice-aggregate-print-read : tie.Need-slice-aggregate-print-read
 slice-aggregate-print-read c =
-    let fits = book-fits _ _ (winter-count _ _ _ (c .before .before .before .days .given .1) (c .before .before .before .before .before .winter-days .ensures)) in
-    simp length-take (omega (arith, fits))
+    let known = c .before .before .before .before in
+    let fits = book-fits _ _ (winter-count _ _ _ (known .days .given .1) (known .before .before .winter-days .ensures)) in
+    simp length-take (omega arith)
 
 print-read-requires : tie.Need-print-read-requires
 print-read-requires c κs =
-    let t = c .before .before .before .before .before .before in
-    let s = t .before .before .before in
-    let d = c .before .before .before .before .days .given .1 in
-    let n = winter-count _ _ _ d (t .winter-days .ensures) in
-    (s .pre .0, (is-winter _ _ _ d (t .winter-days .ensures), c .before .before .if1 .left, winter-book (s .args .shape .winter) _ n, s .pre .1))
+    let long = c .before .before in
+    let known = long .before .before .before in
+    let asked = known .before .before in
+    let called = asked .before .before .before in
+    let is = winter-count _ _ _ (known .days .given .1) (asked .winter-days .ensures) in
+    let book = winter-book (called .args .shape .winter) _ (long .length-of .result) is (long .length-of .ensures) in
+    (called .pre .0, (is-winter _ _ _ (known .days .given .1) (asked .winter-days .ensures), long .before .if1 .left, book, called .pre .1))
 
 same-length-3 : tie.Need-same-length-3
 same-length-3 c = search needs
@@ -85,8 +87,7 @@ print-formed-spec =
     refuse-requires-2
     same-length-2
     returns-2
-    cast-hours
-    mul-hours
+    length-of-requires
     array-borrow-prefix-book
     slice-aggregate-print-read
     print-read-requires

@@ -1,0 +1,7 @@
+pub mod FaultLaws
+pub mod FirstFault
+pub mod LengthLaws
+pub mod PartLaws
+pub mod PlaceLaws
+pub mod RunLaws
+pub mod SumLaws

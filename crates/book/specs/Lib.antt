@@ -1,0 +1,5 @@
+pub mod Length
+pub mod Places
+pub mod Values
+pub mod Readings
+pub mod Part

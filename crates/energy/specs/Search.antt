@@ -1,0 +1,41 @@
+-- How the code finds the reference days: at most five, at the front of an array with their count; and how it walks over days that carry
+-- an event.
+-- Assumes nothing.
+use Prim.Native.Nat.{ℕ, zero, suc, _<_}
+use mathlib.Core.Bool.{Bool, false, not, cond, Bool·beq, _&&_}
+use mathlib.Core.List.{List}
+use mathlib.Core.Path.{_≡_}
+use lib.Dec.{eqb}
+use lib.ListN.{length, getD, take}
+use Rattle.calendar.specs.Days.{wrongWinter, inPeriod}
+use Rattle.calendar.specs.Excluded.{excluded}
+use Rattle.calendar.specs.Weekdays.{weekend}
+use Rattle.calendar.specs.declared.answers.Kind.{Kind}
+use Rattle.calendar.specs.declared.answers.Winter.{Winter}
+use Rattle.energy.specs.declared.reference_days.Refs.{Refs}
+
+-- the days that were found are the first `count` of the array
+pub record Finds (ds : List ℕ) (r : Refs) : Type 0 where
+  pub counted : r .count ≡ length ds
+  pub first : take (r .count) (r .days) ≡ ds
+  pub long : length (r .days) ≡ 5
+
+-- where a search backwards from day d goes on: past the days right before it that carry an event
+unfoldable pub pastEvents : List ℕ → ℕ → ℕ
+pastEvents masks zero = 0
+pastEvents masks (suc d) = cond (eqb (getD masks d 0) 0) (suc d) (pastEvents masks d)
+
+-- whether a day that carries no event serves an event on a weekend day or on a weekday
+unfoldable pub freeServes : Winter → Bool → ℕ → Bool
+freeServes w onWeekend d = Bool·beq (weekend w d) onWeekend && not (excluded w d)
+
+-- what the private functions ask of a day: it is a day of the winter's book
+pub record BookDay (w : Winter) (d : ℕ) : Type 0 where
+  pub right : wrongWinter w ≡ false
+  pub there : d < w .days
+
+-- and the kind is that day's
+pub record OnDay (w : Winter) (d : ℕ) (kind : Kind) : Type 0 where
+  pub day : BookDay w d
+  pub period : kind .period ≡ inPeriod w d
+  pub week : kind .weekend ≡ weekend w d
