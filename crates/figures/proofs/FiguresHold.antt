@@ -1,7 +1,7 @@
 -- Each figure of document 01 that is marked P holds: one proof over the whole list, by computing both sides.
 -- This is the one place where definitions of other crates are opened, since to compute is the point.
 -- Assumes nothing.
-use mathlib.Core.List.{map}
+use mathlib.Core.List.{flatten, map}
 use mathlib.Core.Path.{_≡_, refl}
 use Rattle.book.specs.Places.{hoursFrom, placesOn}
 use Rattle.book.specs.Readings.{firstFault, sumOver}
@@ -21,11 +21,9 @@ use Rattle.energy.specs.Spared.{trialOf, aboveLimit, sparedOf}
 use Rattle.energy.specs.Trimmed.{sumOf, smallestOf, largestOf, trimmedOf}
 use Rattle.event_hours.specs.Days.{marksNone, withHours, masksTo, masksOf}
 use Rattle.event_hours.specs.Hours.{hoursMask}
-use Rattle.form.specs.Form.{bodyOf, formOf}
-use Rattle.form.specs.Lines.{eventLineAt, valuesAt, headAt, readLineAt, eventLines, readLines}
-use Rattle.form.specs.Numbers.{digitOf, digitsFrom, numberFrom, numberAt, wordFrom, wordAt, markAt, fieldAt, keyedAt}
-use Rattle.form.specs.Places.{bookDays, misplaced, misplacedRead}
-use Rattle.form.specs.Said.{eventsOf, valuesOf, bookOf}
+use Rattle.form.specs.Form.{topOf, restOf, formOf, noticesSaid, readsFrom, readsSaid}
+use Rattle.form.specs.Lines.{eventLineAt, headAt, readLineAt, linesEnd, linesSaid}
+use Rattle.form.specs.Places.{bookDays, misplacedBy, misplacedIn, bookIn}
 use Rattle.laws.specs.Answer.{refuse}
 use Rattle.laws.specs.Rows.{rowsTo}
 use Rattle.laws.specs.Table.{firstOf}
@@ -40,8 +38,10 @@ use Rattle.money.specs.Worth.{roundedWorth}
 use Rattle.notices.specs.Hours.{outside, badHours, badLength}
 use Rattle.notices.specs.Notices.{noticeAt, hoursOf, hoursTo}
 use Rattle.notices.specs.Profiles.{figuresOf, named}
-use Rattle.numerals.specs.Decimal.{digitsIn, decimal, field}
-use Rattle.numerals.specs.Lines.{fields, lineBytes, bytesOfLines}
+use Rattle.numerals.specs.Decimal.{isDigit, digitsIn, decimal}
+use Rattle.numerals.specs.Fields.{endFrom, digitsFrom, fieldFrom, fieldAt, wordFrom, wordAt, keyedAt}
+use Rattle.numerals.specs.Lines.{fieldBytes, lineBytes, bytesOfLines}
+use Rattle.numerals.specs.Rows.{rowAt}
 use Rattle.printing.specs.Sheet.{refusedLines, noticeLine, statementLines}
 use Rattle.schedule.specs.ListCheck.{ownRows, listRows, noticeRows, afterNotice, sofarAt, rowsAt, badList, checkTable, checkAnswer}
 use Rattle.schedule.specs.Rules.{outsidePeriod, onExcludedDay, barredWeekend, startsBefore, sameBand, overLimit}
@@ -55,5 +55,5 @@ use Rattle.figures.specs.ScheduleFigures.{mornings, hundredHours, schedu
 use Rattle.figures.specs.TextFigures.{bytesIn, sampleInput, sampleOutput, twice, textFigures}
 
 pub figures-hold : map (λ (f : Figure). f .paper) figures ≡ map (λ (f : Figure). f .computed) figures
-unfolding calendarFigures alsoExcluded alsoFrom easterSunday refuse noEasterYear easterT easterInBook among goodFriday easterMonday excluded leap days winterOf wrongWinter noDay scheduleFigures mornings hundredHours checkAnswer checkTable badList rowsAt noticeRows ownRows listRows firstOf sofarAt afterNotice noticeAt hoursOf hoursTo named figuresOf outsidePeriod onExcludedDay barredWeekend outside badHours badLength startsBefore sameBand overLimit noWinter inPeriod firstWeekday weekday weekend energyFigures sampleDay sampleBook sampleList eventAnswer lineOf askedBy warmUp hoursFrom needed placesOn firstFault faultOf energyOf sumOver trimmedAt trimmedOf sumOf smallestOf largestOf sparedOf aboveLimit trialOf referenceDays before serves masksOf masksTo withHours marksNone hoursMask moneyFigures settlement settledBy written writtenBy refusalOf settlementTable callRows badBook badPrice shortOutput rowsTo lineAt centsAt sumTo eventAt roundedWorth textFigures bytesIn sampleInput sampleOutput twice statementOf formBytes valuesBytes settledBytes settlementBytes formOf bodyOf keyedAt fieldAt markAt wordAt wordFrom numberAt numberFrom digitsFrom digitOf eventLines readLines eventLineAt readLineAt headAt valuesAt misplacedRead misplaced bookDays eventsOf bookOf valuesOf statementLines refusedLines noticeLine bytesOfLines lineBytes fields field decimal digitsIn
+unfolding calendarFigures alsoExcluded alsoFrom easterSunday refuse noEasterYear easterT easterInBook among goodFriday easterMonday excluded leap days winterOf wrongWinter noDay scheduleFigures mornings hundredHours checkAnswer checkTable badList rowsAt noticeRows ownRows listRows firstOf sofarAt afterNotice noticeAt hoursOf hoursTo named figuresOf outsidePeriod onExcludedDay barredWeekend outside badHours badLength startsBefore sameBand overLimit noWinter inPeriod firstWeekday weekday weekend energyFigures sampleDay sampleBook sampleList eventAnswer lineOf askedBy warmUp hoursFrom needed placesOn firstFault faultOf energyOf sumOver trimmedAt trimmedOf sumOf smallestOf largestOf sparedOf aboveLimit trialOf referenceDays before serves masksOf masksTo withHours marksNone hoursMask moneyFigures settlement settledBy written writtenBy refusalOf settlementTable callRows badBook badPrice shortOutput rowsTo lineAt centsAt sumTo eventAt roundedWorth textFigures bytesIn sampleInput sampleOutput twice statementOf formBytes valuesBytes settledBytes settlementBytes formOf topOf restOf noticesSaid readsFrom readsSaid keyedAt fieldAt fieldFrom digitsFrom endFrom isDigit wordAt wordFrom rowAt linesEnd linesSaid eventLineAt headAt readLineAt flatten misplacedIn misplacedBy bookDays bookIn statementLines refusedLines noticeLine bytesOfLines lineBytes fieldBytes decimal digitsIn
 figures-hold = refl

@@ -2,59 +2,90 @@
 -- Assumes nothing.
 use Prim.Native.Nat.{ℕ, _+_}
 use mathlib.Core.List.{List, [], _∷_, _++_, map}
-use mathlib.Core.Path.{_≡_, _∙_}
+use mathlib.Core.Path.{_≡_, refl, ap, _∙_}
 use native.Mathlib.Omega.{arith}
 use lib.Dec.{eqb}
 use lib.ListN.{length}
 use borrow.Author.Tests.{eqb-true}
 use Rattle.laws.proofs.Every.{Every}
+use Rattle.numerals.proofs.Here.{Here, here-then, here-whole}
+use Rattle.numerals.proofs.LineLaws.{lines-more, lines-append}
+use Rattle.numerals.proofs.Ways.{first, after-number}
+use Rattle.numerals.proofs.WrittenFields.{KeyedWritten, keyed-written}
+use Rattle.numerals.specs.Fields.{Small, keyedAt}
 use Rattle.numerals.specs.Lines.{line, bytesOfLines}
 use Rattle.numerals.specs.Words.{bytesOf}
-use Rattle.numerals.proofs.LineLaws.{line-one, lines-more, lines-append}
-use Rattle.form.specs.Document.{EventLine, ReadLine, Document, eventLine, readLine, documentLines, textOf, Small, SmallEvent, SmallRead, Writable}
-use Rattle.form.specs.Form.{bodyOf, formOf}
-use Rattle.form.specs.Lines.{eventLines, readLines}
-use Rattle.form.specs.Numbers.{keyedAt}
+use Rattle.numerals.specs.declared.fields.Number.the-variants as number
+use Rattle.form.specs.Document.{ReadLine, Document, noticeNumbers, eventLine, readLine, documentLines, textOf, SmallEvent, SmallRead, Writable}
+use Rattle.form.specs.Form.{topOf, afterTop, restOf, formOf}
+use Rattle.form.specs.Lines.{afterLines, eventLineAt, readLineAt, linesEnd}
+use Rattle.form.specs.declared.lines.Lines.{Lines}
+use Rattle.form.specs.declared.lines.Lines.the-variants as lines
 use Rattle.form.specs.declared.whole.Form.the-variants as form
 use Rattle.form.specs.declared.whole.Shape.{Shape}
-use Rattle.form.proofs.WrittenNumbers.{Here, here-then, here-whole, first, after-number, keyed-written}
-use Rattle.form.proofs.WrittenLines.{after-lines, events-written, reads-written}
+use Rattle.form.specs.declared.whole.Top.{Top}
+use Rattle.form.specs.declared.whole.Top.the-variants as top
+use Rattle.form.proofs.LineKinds.{LinesWritten, lines-written}
+use Rattle.form.proofs.TextLines.{events, reads}
 
--- a text whose form is broken has no form
+-- a text whose form is broken has no form, and a top that is broken is none
 no-form : (f : Shape) (line : ℕ) → form.Broken line ≡ form.Whole f → ⊥
 no-form f line e = let z : _≡_ {A = ℕ} 0 1 = cc in omega arith
 
--- so many event lines, and the lines after them to the end of the text
-record BodyWritten (s : List ℕ) (count at : ℕ) : Type 0 where
-  events : List EventLine
-  reads : List ReadLine
-  counted : length events ≡ count
-  small : Every SmallEvent events
-  few : Small (length reads)
-  small-reads : Every SmallRead reads
-  here : Here s at (bytesOfLines (map eventLine events ++ (line "reads=" (length reads ∷ []) ∷ map readLine reads))) (length s)
+pub no-top : (line winter price events p : ℕ) → top.Broken line ≡ top.Is winter price events p → ⊥
+no-top line winter price events p e = let z : _≡_ {A = ℕ} 0 1 = cc in omega arith
 
-body-written : (s : List ℕ) (winter price events at : ℕ) (f : Shape) → bodyOf s winter price events at ≡ form.Whole f
-    → BodyWritten s events at
-unfolding bodyOf
-body-written s winter price events at f e =
-    after-lines form.Broken (no-form f) (eventLines events s at 4) _ e
-    (λ p is e₁. after-number (form.Broken (events + 4)) (no-form f (events + 4)) (keyedAt s p (bytesOf "reads=")) _ e₁
-    (λ reads p₁ keyed e₂. after-lines form.Broken (no-form f) (readLines reads s p₁ (events + 4 + 1)) _ e₂
-    (λ p₂ are e₃.
-    let end = first (eqb p₂ (length s)) _ _ (no-form f (events + 4 + 1 + reads)) e₃ in
-    let x = events-written events s at 4 p is in
-    let z = reads-written reads s p₁ (events + 4 + 1) (length s) (cc (are, eqb-true p₂ (length s) (end .0))) in
-    let y = keyed-written s p (bytesOf "reads=") (length (z .reads)) p₁ (cc (keyed, z .counted)) in
+-- what came first where it went on after a top, or after some lines
+module _ {A P : Type 0} {z : A} (broken : ℕ → A) (never : (line : ℕ) → broken line ≡ z → ⊥) where
+  after-top : (x : Top) (go : ℕ → ℕ → ℕ → ℕ → A) → afterTop broken x go ≡ z
+      → ((winter price events p : ℕ) → x ≡ top.Is winter price events p → go winter price events p ≡ z → P) → P
+  after-top (top.Is winter price events p) go e on = on winter price events p refl e
+  after-top (top.Broken line) go e on = absurd (never line e)
+
+  after-lines : (x : Lines) (go : ℕ → A) → afterLines broken x go ≡ z → ((p : ℕ) → x ≡ lines.Whole p → go p ≡ z → P) → P
+  after-lines (lines.Whole p) go e on = on p refl e
+  after-lines (lines.Broken line) go e on = absurd (never line e)
+
+-- the first three lines, where they were read, stand at the front
+pub record TopRead (s : List ℕ) (winter price count p : ℕ) : Type 0 where
+  pub price-at : ℕ
+  pub count-at : ℕ
+  pub is-winter : keyedAt s 0 (bytesOf "winter=") ≡ number.Is winter price-at
+  pub is-price : keyedAt s price-at (bytesOf "price=") ≡ number.Is price count-at
+  pub is-count : keyedAt s count-at (bytesOf "events=") ≡ number.Is count p
+
+pub top-read : (s : List ℕ) (winter price count p : ℕ) → topOf s ≡ top.Is winter price count p → TopRead s winter price count p
+unfolding topOf
+top-read s winter price count p e =
+    let never : (line : ℕ) → top.Broken line ≡ top.Is winter price count p → ⊥ = λ line. no-top line winter price count p in
+    after-number (top.Broken 1) (never 1) (keyedAt s 0 (bytesOf "winter=")) _ e
+    (λ w p₁ k₁ e₁. after-number (top.Broken 2) (never 2) (keyedAt s p₁ (bytesOf "price=")) _ e₁
+    (λ c p₂ k₂ e₂. after-number (top.Broken 3) (never 3) (keyedAt s p₂ (bytesOf "events=")) _ e₂
+    (λ n p₃ k₃ same. record { price-at = p₁; count-at = p₂; is-winter = cc; is-price = cc; is-count = cc })))
+
+-- the lines from `reads=` on, where they were read to the end of the text
+record RestWritten (s : List ℕ) (at : ℕ) : Type 0 where
+  values : List ReadLine
+  few : Small (length values)
+  fit : Every SmallRead values
+  here : Here s at (bytesOfLines (line "reads=" (length values ∷ []) ∷ map readLine values)) (length s)
+
+rest-written : (s : List ℕ) (winter price events at : ℕ) (f : Shape) → restOf s winter price events at ≡ form.Whole f → RestWritten s at
+unfolding restOf
+rest-written s winter price events at f e =
+    after-number (form.Broken (events + 4)) (no-form f (events + 4)) (keyedAt s at (bytesOf "reads=")) _ e
+    (λ count p counted e₁. after-lines form.Broken (no-form f) (linesEnd (readLineAt s) count p (events + 4 + 1)) _ e₁
+    (λ q are e₂.
+    let end = first (eqb q (length s)) _ _ (no-form f (events + 4 + 1 + count)) e₂ in
+    let whole = are ∙ ap lines.Whole (eqb-true q (length s) (end .0)) in
+    let lines = lines-written (reads s) count p (events + 4 + 1) (length s) whole in
+    let key = keyed-written s at (bytesOf "reads=") (length (lines .values)) p (cc (counted, lines .counted)) in
     record {
-      events = x .events;
-      reads = z .reads;
-      counted = x .counted;
-      small = x .small;
-      few = y .1;
-      small-reads = z .small;
-      here = rw (lines-append, lines-more, line-one) (here-then (x .here) (here-then (y .0) (z .here)));
-    })))
+      values = lines .values;
+      few = key .small;
+      fit = lines .fit;
+      here = rw lines-more (here-then (key .here) (lines .here));
+    }))
 
 -- the values that a text is the text of
 pub record Held (s : List ℕ) : Type 0 where
@@ -65,24 +96,25 @@ pub record Held (s : List ℕ) : Type 0 where
 pub form-written : (s : List ℕ) (f : Shape) → formOf s ≡ form.Whole f → Held s
 unfolding formOf documentLines
 form-written s f e =
-    after-number (form.Broken 1) (no-form f 1) (keyedAt s 0 (bytesOf "winter=")) _ e
-    (λ winter p k e₁. after-number (form.Broken 2) (no-form f 2) (keyedAt s p (bytesOf "price=")) _ e₁
-    (λ price p₁ k₁ e₂. after-number (form.Broken 3) (no-form f 3) (keyedAt s p₁ (bytesOf "events=")) _ e₂
-    (λ events p₂ k₂ e₃.
-    let r = body-written s winter price events p₂ f e₃ in
-    let x = keyed-written s 0 (bytesOf "winter=") winter p k in
-    let y = keyed-written s p (bytesOf "price=") price p₁ k₁ in
-    let z = keyed-written s p₁ (bytesOf "events=") (length (r .events)) p₂ (cc (k₂, r .counted)) in
+    after-top form.Broken (no-form f) (topOf s) _ e
+    (λ winter price count p is e₁. after-lines form.Broken (no-form f) (linesEnd (eventLineAt s) count p 4) _ e₁
+    (λ q are e₂.
+    let lines = lines-written (events s) count p 4 q are in
+    let rest = rest-written s winter price count q f e₂ in
+    let top = top-read s winter price count p is in
+    let x = keyed-written s 0 (bytesOf "winter=") winter (top .price-at) (top .is-winter) in
+    let y = keyed-written s (top .price-at) (bytesOf "price=") price (top .count-at) (top .is-price) in
+    let z = keyed-written s (top .count-at) (bytesOf "events=") (length (lines .values)) p (cc (top .is-count, lines .counted)) in
     record {
-      document = record { winter = winter; price = price; events = r .events; reads = r .reads };
+      document = record { winter = winter; price = price; events = lines .values; reads = rest .values };
       writable =
           record {
-            winter = x .1;
-            price = y .1;
-            count = z .1;
-            events = r .small;
-            counted = r .few;
-            reads = r .small-reads;
+            winter = x .small;
+            price = y .small;
+            count = z .small;
+            events = lines .fit;
+            counted = rest .few;
+            reads = rest .fit;
           };
-      is = here-whole (here-then (x .0) (here-then (y .0) (here-then (z .0) (r .here)))) ∙ simp (lines-more, line-one);
-    })))
+      is = here-whole (here-then (x .here) (here-then (y .here) (here-then (z .here) (here-then (lines .here) (rest .here))))) ∙ simp (lines-more, lines-append);
+    }))

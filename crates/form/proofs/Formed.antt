@@ -7,8 +7,7 @@ use mathlib.Core.Path.{_≡_, refl, sym, ap, _∙_}
 use native.Mathlib.Omega.{arith}
 use lib.ListN.{length}
 use Rattle.form.specs.Document.{EventLine, noticesIn}
-use Rattle.form.specs.Form.{formOf}
-use Rattle.form.specs.Said.{eventsOf, bookOf, bookRead}
+use Rattle.form.specs.Form.{formOf, noticesSaid}
 use Rattle.form.specs.declared.whole.Form.the-variants as form
 use Rattle.form.specs.declared.whole.Shape.{Shape}
 use Rattle.form.proofs.Converse.{Held, form-written}
@@ -36,20 +35,13 @@ says-held s f e h =
     rw (g, h .is) (read .1)
 
 -- the list of a text that has the form has three numbers a notice
-notices-long : (xs : List EventLine) → length (noticesIn xs) ≡ 3 * length xs
+three-each : (xs : List EventLine) → length (noticesIn xs) ≡ 3 * length xs
 unfolding noticesIn
-notices-long [] = refl
-notices-long (x ∷ xs) = omega (arith, notices-long xs)
+three-each [] = refl
+three-each (x ∷ xs) = omega (arith, three-each xs)
 
-pub events-long : (s : List ℕ) (f : Shape) → formOf s ≡ form.Whole f → length (eventsOf (f .events) s (f .«events_at»)) ≡ 3 * f .events
-events-long s f e =
+pub notices-long : (s : List ℕ) (f : Shape) → formOf s ≡ form.Whole f → length (noticesSaid s) ≡ 3 * f .events
+notices-long s f e =
     let h = form-written s f e in
     let said = says-held s f e h in
-    omega (arith, ap length (said .notices), notices-long (h .document .events), said .events)
-
--- the book of a text that has the form is the same as it is read
-pub book-once : (s : List ℕ) (f : Shape) → formOf s ≡ form.Whole f → (book : List ℕ)
-    → bookRead (f .reads) s (f .«reads_at») book ≡ bookOf (f .reads) s (f .«reads_at») book
-book-once s f e book =
-    let said = says-held s f e (form-written s f e) in
-    said .book-read book ∙ sym (said .book book)
+    omega (arith, ap length (said .notices), three-each (h .document .events), said .count)

@@ -1,82 +1,159 @@
--- Laws of event lines, values and read lines: the ways out and the turn of each loop over them.
+-- Laws of n lines of a kind, by the ways out and the turn of a loop over them, and of one event line and one read line, by the ways out of
+-- the functions that read them.
 -- Assumes nothing.
 use Prim.Native.Nat.{ℕ, suc, _+_, _-_, _<_}
-use mathlib.Core.List.{List}
-use mathlib.Core.Path.{_≡_, ap, _∙_}
+use mathlib.Core.Bool.{Bool, true, false, cond}
+use mathlib.Core.List.{List, [], _∷_}
+use mathlib.Core.Path.{_≡_, refl, sym, ap, _∙_}
 use native.Mathlib.Omega.{arith}
-use Rattle.numerals.specs.Words.{comma, lineEnd}
-use Rattle.form.specs.Lines.{afterEvent, afterReading, eventLineAt, eventLines, valuesAt, readLineAt, readLines}
-use Rattle.form.specs.Numbers.{afterNumber, afterStep, numberAt, markAt}
-use Rattle.form.specs.declared.lines.Event.the-variants as event
+use lib.Dec.{eqb}
+use lib.ListN.{length}
+use lib.Seq.{sets}
+use borrow.Author.Tests.{eq-eqb, ne-eqb, eqb-true}
+use Rattle.numerals.proofs.RowLaws.{told-broken, told-of}
+use Rattle.numerals.proofs.Ways.{first, no-step}
+use Rattle.numerals.specs.Fields.{afterStep, wordAt}
+use Rattle.numerals.specs.Rows.{Read, noNumber, rowAt, rowTold}
+use Rattle.numerals.specs.Words.{bytesOf}
+use Rattle.numerals.specs.declared.fields.Step.{Step}
+use Rattle.numerals.specs.declared.fields.Step.the-variants as step
+use Rattle.numerals.specs.declared.rows.Row.the-variants as row
+use Rattle.form.specs.Document.{ReadLine}
+use Rattle.form.specs.Lines.{exactly, eventLineAt, headAt, afterHead, readFrom, noRead, readLineAt, linesEnd, linesSaid}
+use Rattle.form.specs.Places.{hourPlace, putRead, hoursTold}
+use Rattle.form.specs.declared.lines.Head.{Head}
+use Rattle.form.specs.declared.lines.Head.the-variants as head
+use Rattle.form.specs.declared.lines.Hours.{Hours}
+use Rattle.form.specs.declared.lines.Hours.the-variants as hours
 use Rattle.form.specs.declared.lines.Lines.the-variants as lines
-use Rattle.form.specs.declared.lines.Reading.the-variants as reading
-use Rattle.form.specs.declared.lines.Values.the-variants as values
-use Rattle.form.specs.declared.numbers.Number.the-variants as number
-use Rattle.form.specs.declared.numbers.Step.the-variants as step
 
--- a number above 0 is a successor
-pub above-zero : (n : ℕ) → 0 < n → n ≡ suc (n - 1)
-above-zero n h = omega arith
+-- n lines of a kind
+module _ {A : Type 0} (one : ℕ → Read A) (n at : ℕ) where
+  pub lines-done : (line : ℕ) → n ≡ 0 → linesEnd one n at line ≡ lines.Whole at
+  unfolding linesEnd
+  lines-done line h = rw h
 
-pub events-done : (n : ℕ) (s : List ℕ) (at line : ℕ) → n ≡ 0 → eventLines n s at line ≡ lines.Whole at
-unfolding eventLines
-events-done n s at line h = rw h
+  pub said-done : n ≡ 0 → linesSaid one n at ≡ []
+  unfolding linesSaid
+  said-done h = rw h
 
-pub events-turn : (n : ℕ) (s : List ℕ) (at line : ℕ) → 0 < n
-    → eventLines n s at line
-    ≡ afterEvent (lines.Broken line) (eventLineAt s at) (λ day start end p. eventLines (n - 1) s p (line + 1))
-unfolding eventLines
-events-turn n s at line h = ap (λ (k : ℕ). eventLines k s at line) (above-zero n h)
+  module _ (h : 0 < n) where
+    above-zero : n ≡ suc (n - 1)
+    above-zero = omega arith
 
-module _ (n : ℕ) (s : List ℕ) (at line : ℕ) (h : 0 < n) where
-  pub events-bad : eventLineAt s at ≡ event.Broken → eventLines n s at line ≡ lines.Broken line
-  events-bad e = events-turn n s at line h ∙ rw e
+    end-turn : (line : ℕ) → linesEnd one n at line ≡ afterStep (lines.Broken line) (one at .end) (λ p. linesEnd one (n - 1) p (line + 1))
+    unfolding linesEnd
+    end-turn line = ap (λ (k : ℕ). linesEnd one k at line) above-zero
 
-  pub events-more : {d b c p : ℕ} → eventLineAt s at ≡ event.Line d b c p
-      → eventLines n s at line ≡ eventLines (n - 1) s p (line + 1)
-  events-more e = events-turn n s at line h ∙ rw e
+    said-turn : linesSaid one n at ≡ one at .said ∷ afterStep [] (one at .end) (λ p. linesSaid one (n - 1) p)
+    unfolding linesSaid
+    said-turn = ap (λ (k : ℕ). linesSaid one k at) above-zero
 
-pub reads-done : (n : ℕ) (s : List ℕ) (at line : ℕ) → n ≡ 0 → readLines n s at line ≡ lines.Whole at
-unfolding readLines
-reads-done n s at line h = rw h
+    pub lines-bad : (line : ℕ) → one at .end ≡ step.Broken → linesEnd one n at line ≡ lines.Broken line
+    lines-bad line e = end-turn line ∙ rw e
 
-pub reads-turn : (n : ℕ) (s : List ℕ) (at line : ℕ) → 0 < n
-    → readLines n s at line
-    ≡ afterReading (lines.Broken line) (readLineAt s at) (λ day hour count run p. readLines (n - 1) s p (line + 1))
-unfolding readLines
-reads-turn n s at line h = ap (λ (k : ℕ). readLines k s at line) (above-zero n h)
+    pub said-bad : one at .end ≡ step.Broken → linesSaid one n at ≡ one at .said ∷ []
+    said-bad e = said-turn ∙ rw e
 
-module _ (n : ℕ) (s : List ℕ) (at line : ℕ) (h : 0 < n) where
-  pub reads-bad : readLineAt s at ≡ reading.Broken → readLines n s at line ≡ lines.Broken line
-  reads-bad e = reads-turn n s at line h ∙ rw e
+    pub lines-more : (line : ℕ) {p : ℕ} → one at .end ≡ step.To p → linesEnd one n at line ≡ linesEnd one (n - 1) p (line + 1)
+    lines-more line e = end-turn line ∙ rw e
 
-  pub reads-more : {d b c v p : ℕ} → readLineAt s at ≡ reading.Line d b c v p
-      → readLines n s at line ≡ readLines (n - 1) s p (line + 1)
-  reads-more e = reads-turn n s at line h ∙ rw e
+    pub said-more : {p : ℕ} → one at .end ≡ step.To p → linesSaid one n at ≡ one at .said ∷ linesSaid one (n - 1) p
+    said-more e = said-turn ∙ rw e
 
--- values
-pub values-done : (n : ℕ) (s : List ℕ) (at k : ℕ) → n ≡ 0 → valuesAt n s at k ≡ values.Broken
-unfolding valuesAt
-values-done n s at k h = rw h
+-- what reading an event line answers and leaves in the list
+abbrev pub EventPut : List ℕ → ℕ → List ℕ → ℕ → Step → List ℕ → Type 0
+EventPut s at list k told after = (told ≡ eventLineAt s at .end) × (after ≡ sets list k (eventLineAt s at .said))
 
-pub values-turn : (n : ℕ) (s : List ℕ) (at k : ℕ) → 0 < n
-    → valuesAt n s at k
-    ≡ afterNumber values.Broken (numberAt s at)
-    (λ v p. afterStep (afterStep values.Broken (markAt s p comma) (λ q. valuesAt (n - 1) s q (k + 1)))
-    (markAt s p lineEnd)
-    (λ q. values.Run (k + 1) q))
-unfolding valuesAt
-values-turn n s at k h = ap (λ (m : ℕ). valuesAt m s at k) (above-zero n h)
+module _ (s : List ℕ) (at : ℕ) (list : List ℕ) (k : ℕ) where
+  pub event-no-word : wordAt s at (bytesOf "event=") ≡ step.Broken → EventPut s at list k step.Broken list
+  unfolding eventLineAt
+  event-no-word e = rw e (refl, refl)
 
-module _ (n : ℕ) (s : List ℕ) (at k : ℕ) (h : 0 < n) where
-  pub values-none : numberAt s at ≡ number.Broken → valuesAt n s at k ≡ values.Broken
-  values-none e = values-turn n s at k h ∙ rw e
+  module _ {p : ℕ} (e : wordAt s at (bytesOf "event=") ≡ step.To p) {after : List ℕ} (put : after ≡ sets list k (rowAt 3 s p .said)) where
+    event-put : after ≡ sets list k (eventLineAt s at .said)
+    unfolding eventLineAt
+    event-put = put ∙ rw e
 
-  pub values-last : {v p q : ℕ} → numberAt s at ≡ number.Is v p → markAt s p lineEnd ≡ step.To q → valuesAt n s at k ≡ values.Run (k + 1) q
-  values-last e f = values-turn n s at k h ∙ rw (e, f)
+    event-end : eventLineAt s at .end ≡ exactly 3 (rowAt 3 s p) .end
+    unfolding eventLineAt
+    event-end = rw e
 
-  pub values-bad : {v p : ℕ} → numberAt s at ≡ number.Is v p → markAt s p lineEnd ≡ step.Broken → markAt s p comma ≡ step.Broken → valuesAt n s at k ≡ values.Broken
-  values-bad e f g = values-turn n s at k h ∙ rw (e, f, g)
+    pub event-broken : row.Broken ≡ rowTold 0 (rowAt 3 s p) → EventPut s at list k step.Broken after
+    event-broken r = (sym (event-end ∙ both (eqb (length (rowAt 3 s p .said)) 3)), event-put)
+      where
+        both : (t : Bool) → cond t (rowAt 3 s p .end) step.Broken ≡ step.Broken
+        both true = told-broken (rowAt 3 s p) r
+        both false = refl
 
-  pub values-more : {v p q : ℕ} → numberAt s at ≡ number.Is v p → markAt s p lineEnd ≡ step.Broken → markAt s p comma ≡ step.To q → valuesAt n s at k ≡ valuesAt (n - 1) s q (k + 1)
-  values-more e f g = values-turn n s at k h ∙ rw (e, f, g)
+    module _ {count next : ℕ} (r : row.Of count next ≡ rowTold 0 (rowAt 3 s p)) where
+      pub event-other : (count ≡ 3 → ⊥) → EventPut s at list k step.Broken after
+      event-other f =
+          let told = told-of (rowAt 3 s p) count next r in
+          let other : length (rowAt 3 s p .said) ≡ 3 → ⊥ = λ e. f (told .1 ∙ e) in
+          (sym (event-end ∙ rw (ne-eqb _ _ other)), event-put)
+
+      pub event-is : count ≡ 3 → EventPut s at list k (step.To next) after
+      event-is f =
+          let told = told-of (rowAt 3 s p) count next r in
+          (sym (event-end ∙ rw (eq-eqb _ _ (sym (told .1) ∙ f), told .0)), event-put)
+
+-- an event line that is whole: its key, and a row of three numbers
+pub record EventRead (s : List ℕ) (at q : ℕ) : Type 0 where
+  pub from : ℕ
+  pub key : wordAt s at (bytesOf "event=") ≡ step.To from
+  pub ends : rowAt 3 s from .end ≡ step.To q
+  pub said : eventLineAt s at .said ≡ rowAt 3 s from .said
+  pub three : length (rowAt 3 s from .said) ≡ 3
+
+pub event-read : (s : List ℕ) (at q : ℕ) → eventLineAt s at .end ≡ step.To q → EventRead s at q
+unfolding eventLineAt
+event-read s at q e = by (wordAt s at (bytesOf "event=")) refl e
+  where
+    by : (x : Step) → wordAt s at (bytesOf "event=") ≡ x → afterStep noNumber x (λ p. exactly 3 (rowAt 3 s p)) .end ≡ step.To q → EventRead s at q
+    by step.Broken i e = absurd (no-step q e)
+    by (step.To p) i e =
+        let t = first (eqb (length (rowAt 3 s p .said)) 3) (rowAt 3 s p .end) step.Broken (no-step q) e in
+        record { from = p; key = i; ends = t .1; said = rw i; three = eqb-true _ _ (t .0) }
+
+pub event-three : (s : List ℕ) (at q : ℕ) → eventLineAt s at .end ≡ step.To q → length (eventLineAt s at .said) ≡ 3
+event-three s at q e = let r = event-read s at q e in ap length (r .said) ∙ r .three
+
+-- what reading a read line answers and leaves in the book
+abbrev pub ReadPut : List ℕ → ℕ → List ℕ → Hours → List ℕ → Type 0
+ReadPut s at book told after = (told ≡ hoursTold (readLineAt s at)) × (after ≡ putRead (readLineAt s at .said) book)
+
+module _ (s : List ℕ) (at : ℕ) (book : List ℕ) where
+  pub read-no-head : headAt s at ≡ head.Broken → ReadPut s at book hours.Broken book
+  unfolding readLineAt
+  read-no-head e = rw e (refl, refl)
+
+  module _ {day hour p : ℕ} (e : headAt s at ≡ head.Start day hour p) {after : List ℕ} (put : after ≡ sets book (hourPlace day hour) (rowAt 24 s p .said)) where
+    read-is : readLineAt s at ≡ readFrom day hour (rowAt 24 s p)
+    unfolding readLineAt
+    read-is = rw e
+
+    pub read-broken : row.Broken ≡ rowTold 0 (rowAt 24 s p) → ReadPut s at book hours.Broken after
+    read-broken r = rw read-is (rw (told-broken (rowAt 24 s p) r), put)
+
+    pub read-whole : {count next : ℕ} → row.Of count next ≡ rowTold 0 (rowAt 24 s p) → ReadPut s at book (hours.Of day hour count next) after
+    read-whole {count} {next} r =
+        let told = told-of (rowAt 24 s p) count next r in
+        rw read-is (rw (told .0, told .1), put)
+
+-- a read line that is whole: its start, and a row of values
+pub record ReadRead (s : List ℕ) (at q : ℕ) : Type 0 where
+  pub day : ℕ
+  pub hour : ℕ
+  pub from : ℕ
+  pub start : headAt s at ≡ head.Start day hour from
+  pub ends : rowAt 24 s from .end ≡ step.To q
+  pub said : readLineAt s at .said ≡ record { day = day; hour = hour; values = rowAt 24 s from .said }
+
+pub read-read : (s : List ℕ) (at q : ℕ) → readLineAt s at .end ≡ step.To q → ReadRead s at q
+unfolding readLineAt
+read-read s at q e = by (headAt s at) refl e
+  where
+    by : (x : Head) → headAt s at ≡ x → afterHead noRead x (λ day hour p. readFrom day hour (rowAt 24 s p)) .end ≡ step.To q → ReadRead s at q
+    by head.Broken i e = absurd (no-step q e)
+    by (head.Start day hour p) i e = record { day = day; hour = hour; from = p; start = i; ends = e; said = rw i }

@@ -1,4 +1,5 @@
--- No second outcome fits: a form is read back from its number and values on paper, so an answer of `form_of` is the one that the definition makes.
+-- No second outcome fits: a form is read back from its number and values on paper, so an answer of `read_text` is the one that the definition
+-- makes.
 -- Assumes nothing.
 use Prim.Native.Nat.{ℕ}
 use mathlib.Core.List.{List, [], _∷_}
@@ -14,20 +15,9 @@ formBack [] = form.Broken 0
 formBack (w ∷ []) = form.Broken w
 formBack (w ∷ (p ∷ [])) = form.Broken w
 formBack (w ∷ (p ∷ (e ∷ []))) = form.Broken w
-formBack (w ∷ (p ∷ (e ∷ (a ∷ [])))) = form.Broken w
-formBack (w ∷ (p ∷ (e ∷ (a ∷ (r ∷ []))))) = form.Broken w
-formBack (w ∷ (p ∷ (e ∷ (a ∷ (r ∷ (b ∷ [])))))) = form.Broken w
-formBack (w ∷ (p ∷ (e ∷ (a ∷ (r ∷ (b ∷ (m ∷ vs))))))) = form.Whole (record {
-  winter = w;
-  price = p;
-  events = e;
-  «events_at» = a;
-  reads = r;
-  «reads_at» = b;
-  misplaced = m;
-})
+formBack (w ∷ (p ∷ (e ∷ (m ∷ vs)))) = form.Whole (record { winter = w; price = p; events = e; misplaced = m })
 
--- what an answer of `form_of` tells
+-- what an answer of `read_text` tells
 pub form-is : (f : Form) (s : List ℕ) → formPaper f ≡ formAnswer s → f ≡ formOf s
 unfolding formBack formAnswer
 form-is f s e = read-back formPaper (λ a. formBack (a .values)) inv f (formOf s) (formPaper (formOf s)) e refl

@@ -9,30 +9,36 @@ use native.Mathlib.Omega.{arith}
 use lib.ListN.{length, take, drop, getD, length-append}
 use lib.Seq.{length-take-le, split-at, take-at}
 use Rattle.laws.proofs.Every.{Every, left, right, joined, front, all, map-of}
-use Rattle.numerals.proofs.LineEnds.{ends, ends-append, EndsOnce, lines-ends, part-none}
-use Rattle.numerals.proofs.LineLaws.{lines-more, lines-append}
+use Rattle.numerals.proofs.LineEnds.{ends, ends-append, EndsOnce, numbers-end-once, lines-ends, part-none}
+use Rattle.numerals.proofs.LineLaws.{keyLine, lines-more, lines-append}
+use Rattle.numerals.proofs.ReadFields.{keyed-reads}
+use Rattle.numerals.specs.Fields.{Small}
 use Rattle.numerals.specs.Lines.{Line, lineBytes, bytesOfLines}
 use Rattle.numerals.specs.Words.{bytesOf}
-use Rattle.form.specs.Document.{EventLine, ReadLine, Document, eventLine, readLine, documentLines, textOf, Small, SmallEvent, Writable}
+use Rattle.form.specs.Document.{EventLine, ReadLine, Document, noticeNumbers, eventLine, readLine, documentLines, textOf, SmallEvent, Writable}
 use Rattle.form.specs.Form.{formOf}
 use Rattle.form.specs.declared.whole.Form.the-variants as form
+use Rattle.form.proofs.Begins.{bodyLines, document-long, Begins}
 use Rattle.form.proofs.Converse.{Held}
-use Rattle.form.proofs.FirstBroken.{document-long, Begins, first-broken}
-use Rattle.form.proofs.LinesInText.{keyLine, bodyLines, keyed-front, events-front}
-use Rattle.form.proofs.ReadLines.{first-line, events-read}
-use Rattle.form.proofs.ReadNumbers.{keyed-reads}
+use Rattle.form.proofs.FirstBroken.{first-broken}
+use Rattle.form.proofs.LineKinds.{first-line, lines-read}
+use Rattle.form.proofs.LinesInText.{keyed-front, lines-front}
+use Rattle.form.proofs.TextLines.{events}
 
 -- Bytes that start with lines in two ways: the same was written first, and the same bytes stand after it.
 module _ (r q : List ℕ) where
+  record SameNumber (n m : ℕ) (xs ys : List Line) : Type 0 where
+    same : n ≡ m
+    after : bytesOfLines xs ++ r ≡ bytesOfLines ys ++ q
+
   same-number : (key : List ℕ) (n m : ℕ) (xs ys : List Line) → Small n → Small m
-      → bytesOfLines (keyLine key n ∷ xs) ++ r ≡ bytesOfLines (keyLine key m ∷ ys) ++ q
-      → (n ≡ m) × (bytesOfLines xs ++ r ≡ bytesOfLines ys ++ q)
+      → bytesOfLines (keyLine key n ∷ xs) ++ r ≡ bytesOfLines (keyLine key m ∷ ys) ++ q → SameNumber n m xs ys
   same-number key n m xs ys a b e =
       let s = bytesOfLines (keyLine key n ∷ xs) ++ r in
       let read = keyed-reads s key (bytesOfLines xs ++ r) 0 n a (first-line s r 0 (keyLine key n) xs refl) in
-      let x = keyed-front s r key 0 n n _ xs a read refl in
-      let y = keyed-front s q key 0 m n _ ys b read e in
-      (y .0, sym (x .1) ∙ y .1)
+      let x = keyed-front s r key 0 n xs a refl n _ read in
+      let y = keyed-front s q key 0 m ys b e n _ read in
+      record { same = y .same; after = sym (x .after) ∙ y .after }
 
   same-events : (vs ws : List EventLine) (xs ys : List Line) → Every SmallEvent vs → Every SmallEvent ws → length vs ≡ length ws
       → bytesOfLines (map eventLine vs ++ xs) ++ r ≡ bytesOfLines (map eventLine ws ++ ys) ++ q
@@ -40,8 +46,8 @@ module _ (r q : List ℕ) where
   same-events vs ws xs ys a b n e =
       let s = bytesOfLines (map eventLine vs ++ xs) ++ r in
       let there : s ≡ bytesOfLines (map eventLine vs) ++ (bytesOfLines xs ++ r) = rw (lines-append, append-assoc) in
-      let read = events-read s (bytesOfLines xs ++ r) vs 0 4 a there in
-      sym (events-front s r vs xs 0 4 _ a read refl) ∙ events-front s q ws ys 0 4 _ b (rw n at read) e
+      let read = lines-read (events s) (bytesOfLines xs ++ r) vs 0 4 a there .ends in
+      sym (lines-front (events s) r vs 0 4 a xs _ read refl) ∙ lines-front (events s) q ws 0 4 b ys _ (rw n at read) e
 
 -- values have equally many lines where one's text starts with the other's, or the same bytes start with both
 same-long : (d c : Document) (r q : List ℕ) → Writable d → Writable c → textOf d ++ r ≡ textOf c ++ q
@@ -49,20 +55,30 @@ same-long : (d c : Document) (r q : List ℕ) → Writable d → Writable c → 
 unfolding documentLines
 same-long d c r q a b e =
     let e₁ = same-number r q (bytesOf "winter=") (d .winter) (c .winter) _ _ (a .winter) (b .winter) e in
-    let e₂ = same-number r q (bytesOf "price=") (d .price) (c .price) _ _ (a .price) (b .price) (e₁ .1) in
-    let e₃ = same-number r q (bytesOf "events=") (length (d .events)) (length (c .events)) _ _ (a .count) (b .count) (e₂ .1) in
-    let e₄ = same-events r q (d .events) (c .events) _ _ (a .events) (b .events) (e₃ .0) (e₃ .1) in
+    let e₂ = same-number r q (bytesOf "price=") (d .price) (c .price) _ _ (a .price) (b .price) (e₁ .after) in
+    let e₃ = same-number r q (bytesOf "events=") (length (d .events)) (length (c .events)) _ _ (a .count) (b .count) (e₂ .after) in
+    let e₄ = same-events r q (d .events) (c .events) _ _ (a .events) (b .events) (e₃ .same) (e₃ .after) in
     let e₅ = same-number r q (bytesOf "reads=") (length (d .reads)) (length (c .reads)) _ _ (a .counted) (b .counted) e₄ in
-    omega (arith, document-long d, document-long c, e₃ .0, e₅ .0)
+    omega (arith, document-long d, document-long c, e₃ .same, e₅ .same)
 
--- each line of a document ends once
+-- each line of a document ends once: its key has no line end, and it has a number
+event-once : (x : EventLine) → EndsOnce (eventLine x)
+event-once x = numbers-end-once (bytesOf "event=") (noticeNumbers x) refl (omega arith)
+
+read-once : (x : ReadLine) → EndsOnce (readLine x)
+read-once x = numbers-end-once (bytesOf "read=") (x .day ∷ x .hour ∷ x .values) refl (omega arith)
+
+key-once : (key : List ℕ) (n : ℕ) → ends key ≡ 0 → EndsOnce (keyLine key n)
+key-once key n none = numbers-end-once key (n ∷ []) none (omega arith)
+
 end-once : (d : Document) → Every EndsOnce (documentLines d)
 unfolding documentLines
 end-once d =
-    let events = map-of EndsOnce eventLine (d .events) (all _ (λ (x : EventLine). (refl, omega arith)) (d .events)) in
-    let reads = map-of EndsOnce readLine (d .reads) (all _ (λ (x : ReadLine). (refl, omega arith)) (d .reads)) in
-    let body = joined EndsOnce (map eventLine (d .events)) (bodyLines [] (d .reads)) events ((refl, omega arith), reads) in
-    ((refl, omega arith), ((refl, omega arith), ((refl, omega arith), body)))
+    let event-lines = map-of EndsOnce eventLine (d .events) (all (λ (x : EventLine). EndsOnce (eventLine x)) event-once (d .events)) in
+    let read-lines = map-of EndsOnce readLine (d .reads) (all (λ (x : ReadLine). EndsOnce (readLine x)) read-once (d .reads)) in
+    let counted = key-once (bytesOf "reads=") (length (d .reads)) refl in
+    let body = joined EndsOnce (map eventLine (d .events)) (bodyLines [] (d .reads)) event-lines (counted, read-lines) in
+    (key-once (bytesOf "winter=") (d .winter) refl, (key-once (bytesOf "price=") (d .price) refl, (key-once (bytesOf "events=") (length (d .events)) refl, body)))
 
 -- values of which the text stops in a line: lines before it, the line itself, of which a part stands there, and lines after it
 module _ (d : Document) (ok : Writable d) (xs : List Line) (x : Line) (ys : List Line) (are : documentLines d ≡ xs ++ (x ∷ ys))

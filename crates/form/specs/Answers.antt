@@ -1,5 +1,5 @@
--- What the question for a text's form answers on paper, and the number and values of each case: what a text that has the form starts with, or
--- 30 at the first line that breaks it.
+-- What the question for a text's form answers on paper, and the number and values of each case: what a text that has the form says beside its
+-- notices and readings, or 30 at the first line that breaks it.
 -- Assumes nothing.
 use Prim.Native.Nat.{ℕ}
 use mathlib.Core.List.{List, [], _∷_}
@@ -11,8 +11,7 @@ use Rattle.form.specs.declared.whole.Form.{Form}
 
 -- the paper's number and values for each case
 abbrev pub formPaper : Form → Answer
-formPaper (form.Whole f) =
-    given (f .winter ∷ f .price ∷ f .events ∷ f .«events_at» ∷ f .reads ∷ f .«reads_at» ∷ f .misplaced ∷ [])
+formPaper (form.Whole f) = given (f .winter ∷ f .price ∷ f .events ∷ f .misplaced ∷ [])
 formPaper (form.Broken line) = refusalAt 30 line
 
 -- what the call answers

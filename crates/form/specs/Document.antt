@@ -1,14 +1,11 @@
--- The text of some values, as document 01 writes it, and what those values say.
+-- The text of some values, as document 01 writes it.
 -- Assumes nothing.
-use Prim.Native.Nat.{ℕ, _+_, _≤_}
-use mathlib.Core.Bool.{cond}
+use Prim.Native.Nat.{ℕ, _≤_}
 use mathlib.Core.List.{List, [], _∷_, _++_, map}
 use lib.ListN.{length}
-use lib.Seq.{sets}
 use Rattle.laws.proofs.Every.{Every}
+use Rattle.numerals.specs.Fields.{Small}
 use Rattle.numerals.specs.Lines.{Line, line, bytesOfLines}
-use Rattle.form.specs.Numbers.{largest}
-use Rattle.form.specs.Places.{hourPlace, misplaced}
 
 pub record EventLine : Type 0 where
   pub day : ℕ
@@ -26,9 +23,13 @@ pub record Document : Type 0 where
   pub events : List EventLine
   pub reads : List ReadLine
 
+-- "A notice is three numbers: day, first hour s, end e"
+abbrev pub noticeNumbers : EventLine → List ℕ
+noticeNumbers x = x .day ∷ x .start ∷ x .end ∷ []
+
 -- `event=day,s,e`
 abbrev pub eventLine : EventLine → Line
-eventLine x = line "event=" (x .day ∷ x .start ∷ x .end ∷ [])
+eventLine x = line "event=" (noticeNumbers x)
 
 -- `read=day,hour,v,..`
 abbrev pub readLine : ReadLine → Line
@@ -44,10 +45,6 @@ documentLines d =
 
 abbrev pub textOf : Document → List ℕ
 textOf d = bytesOfLines (documentLines d)
-
--- "at most 4294967294"
-abbrev pub Small : ℕ → Type 0
-Small n = n ≤ largest
 
 pub record SmallEvent (x : EventLine) : Type 0 where
   pub day : Small (x .day)
@@ -74,20 +71,4 @@ pub record Writable (d : Document) : Type 0 where
 -- the list of notices
 unfoldable pub noticesIn : List EventLine → List ℕ
 noticesIn [] = []
-noticesIn (x ∷ xs) = x .day ∷ x .start ∷ x .end ∷ noticesIn xs
-
--- the first read line that is misplaced, or 0: the next of them is the kth line
-unfoldable pub misplacedIn : ℕ → List ReadLine → ℕ → ℕ → ℕ
-misplacedIn days [] k end = 0
-misplacedIn days (x ∷ xs) k end =
-    cond (misplaced days end (x .day) (x .hour) (length (x .values))) k
-    (misplacedIn days xs (k + 1) (hourPlace (x .day) (x .hour) + length (x .values)))
-
--- the first line of the text that is so misplaced, or 0
-abbrev pub misplacedLineIn : ℕ → Document → ℕ
-misplacedLineIn days d = misplacedIn days (d .reads) (length (d .events) + 4 + 1) 0
-
--- the book once the read lines are put into it
-unfoldable pub bookIn : List ReadLine → List ℕ → List ℕ
-bookIn [] book = book
-bookIn (x ∷ xs) book = bookIn xs (sets book (hourPlace (x .day) (x .hour)) (x .values))
+noticesIn (x ∷ xs) = noticeNumbers x ++ noticesIn xs

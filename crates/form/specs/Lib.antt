@@ -1,7 +1,5 @@
-pub mod Numbers
-pub mod Lines
-pub mod Form
 pub mod Answers
-pub mod Places
-pub mod Said
 pub mod Document
+pub mod Form
+pub mod Lines
+pub mod Places

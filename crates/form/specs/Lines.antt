@@ -1,76 +1,61 @@
--- The event lines and the read lines of a text.
+-- The event lines and the read lines of a text, read from a position on.
 -- "n lines `event=day,s,e`", "m lines `read=day,hour,v,..` with 1 to 24 values for successive hours".
 -- Assumes nothing.
 use Prim.Native.Nat.{ℕ, zero, suc, _+_}
-use mathlib.Core.List.{List}
-use Rattle.numerals.specs.Words.{bytesOf, comma, lineEnd}
-use Rattle.form.specs.Numbers.{afterNumber, afterStep, numberAt, wordAt, markAt, fieldAt}
-use Rattle.form.specs.declared.lines.Event.{Event}
-use Rattle.form.specs.declared.lines.Event.the-variants as event
+use mathlib.Core.Bool.{cond}
+use mathlib.Core.List.{List, [], _∷_}
+use lib.Dec.{eqb}
+use lib.ListN.{length}
+use Rattle.numerals.specs.Fields.{afterField, afterStep, fieldAt, wordAt}
+use Rattle.numerals.specs.Rows.{Read, noNumber, rowAt}
+use Rattle.numerals.specs.Words.{bytesOf, comma}
+use Rattle.numerals.specs.declared.fields.Step.the-variants as step
+use Rattle.form.specs.Document.{ReadLine}
 use Rattle.form.specs.declared.lines.Head.{Head}
 use Rattle.form.specs.declared.lines.Head.the-variants as head
 use Rattle.form.specs.declared.lines.Lines.{Lines}
 use Rattle.form.specs.declared.lines.Lines.the-variants as lines
-use Rattle.form.specs.declared.lines.Reading.{Reading}
-use Rattle.form.specs.declared.lines.Reading.the-variants as reading
-use Rattle.form.specs.declared.lines.Values.{Values}
-use Rattle.form.specs.declared.lines.Values.the-variants as values
 
--- a key and two numbers, with a comma after each: the start of `event=day,s,e` and of `read=day,hour,v,..`
-unfoldable pub headAt : List ℕ → ℕ → List ℕ → Head
-headAt s at key =
-    afterStep head.Broken (wordAt s at key)
-    (λ p. afterNumber head.Broken (fieldAt s p comma)
-    (λ day q. afterNumber head.Broken (fieldAt s q comma) (λ hour next. head.Start day hour next)))
+-- numbers that are so many; else their line is broken
+abbrev pub exactly : ℕ → Read (List ℕ) → Read (List ℕ)
+exactly n r = record { said = r .said; end = cond (eqb (length (r .said)) n) (r .end) step.Broken }
 
--- at least one value and at most `left`, after k values
-unfoldable pub valuesAt : ℕ → List ℕ → ℕ → ℕ → Values
-valuesAt zero s at k = values.Broken
-valuesAt (suc left) s at k =
-    afterNumber values.Broken (numberAt s at)
-    (λ v p. afterStep (afterStep values.Broken (markAt s p comma) (λ q. valuesAt left s q (k + 1)))
-    (markAt s p lineEnd)
-    (λ next. values.Run (k + 1) next))
+-- `event=day,s,e`
+unfoldable pub eventLineAt : List ℕ → ℕ → Read (List ℕ)
+eventLineAt s at = afterStep noNumber (wordAt s at (bytesOf "event=")) (λ p. exactly 3 (rowAt 3 s p))
 
--- go on after a head, an event line, values, a read line or some lines; a broken one gives the answer that stands first
+-- `read=day,hour,`
+unfoldable pub headAt : List ℕ → ℕ → Head
+headAt s at =
+    afterStep head.Broken (wordAt s at (bytesOf "read="))
+    (λ p. afterField head.Broken comma (fieldAt s p)
+    (λ day q. afterField head.Broken comma (fieldAt s q) (λ hour next. head.Start day hour next)))
+
+-- the values of a day from an hour on, and a line that says none
+abbrev pub readFrom : ℕ → ℕ → Read (List ℕ) → Read ReadLine
+readFrom day hour r = record { said = record { day = day; hour = hour; values = r .said }; end = r .end }
+
+abbrev pub noRead : Read ReadLine
+noRead = readFrom 0 0 noNumber
+
 abbrev pub afterHead : {A : Type 0} → A → Head → (ℕ → ℕ → ℕ → A) → A
 afterHead broken (head.Start day hour p) go = go day hour p
 afterHead broken head.Broken go = broken
 
-abbrev pub afterEvent : {A : Type 0} → A → Event → (ℕ → ℕ → ℕ → ℕ → A) → A
-afterEvent broken (event.Line day start end p) go = go day start end p
-afterEvent broken event.Broken go = broken
+-- `read=day,hour,v,..`
+unfoldable pub readLineAt : List ℕ → ℕ → Read ReadLine
+readLineAt s at = afterHead noRead (headAt s at) (λ day hour p. readFrom day hour (rowAt 24 s p))
 
-abbrev pub afterValues : {A : Type 0} → A → Values → (ℕ → ℕ → A) → A
-afterValues broken (values.Run k p) go = go k p
-afterValues broken values.Broken go = broken
+-- n lines of a kind from a position on, by what reads one of them: where they end, if the first is line `line` of the text
+unfoldable pub linesEnd : {A : Type 0} → (ℕ → Read A) → ℕ → ℕ → ℕ → Lines
+linesEnd one zero at line = lines.Whole at
+linesEnd one (suc n) at line = afterStep (lines.Broken line) (one at .end) (λ p. linesEnd one n p (line + 1))
 
-abbrev pub afterReading : {A : Type 0} → A → Reading → (ℕ → ℕ → ℕ → ℕ → ℕ → A) → A
-afterReading broken (reading.Line day hour count from p) go = go day hour count from p
-afterReading broken reading.Broken go = broken
+-- and what they say, up to the one that breaks the form if one does
+unfoldable pub linesSaid : {A : Type 0} → (ℕ → Read A) → ℕ → ℕ → List A
+linesSaid one zero at = []
+linesSaid one (suc n) at = one at .said ∷ afterStep [] (one at .end) (λ p. linesSaid one n p)
 
 abbrev pub afterLines : {A : Type 0} → (ℕ → A) → Lines → (ℕ → A) → A
 afterLines broken (lines.Whole p) go = go p
 afterLines broken (lines.Broken line) go = broken line
-
--- `event=day,s,e`
-unfoldable pub eventLineAt : List ℕ → ℕ → Event
-eventLineAt s at =
-    afterHead event.Broken (headAt s at (bytesOf "event="))
-    (λ day start p. afterNumber event.Broken (fieldAt s p lineEnd) (λ end next. event.Line day start end next))
-
--- `read=day,hour,v,..`
-unfoldable pub readLineAt : List ℕ → ℕ → Reading
-readLineAt s at =
-    afterHead reading.Broken (headAt s at (bytesOf "read="))
-    (λ day hour from. afterValues reading.Broken (valuesAt 24 s from 0) (λ count next. reading.Line day hour count from next))
-
--- n lines, of which the first is line `line` of the text
-unfoldable pub eventLines : ℕ → List ℕ → ℕ → ℕ → Lines
-eventLines zero s at line = lines.Whole at
-eventLines (suc n) s at line = afterEvent (lines.Broken line) (eventLineAt s at) (λ day start end p. eventLines n s p (line + 1))
-
-unfoldable pub readLines : ℕ → List ℕ → ℕ → ℕ → Lines
-readLines zero s at line = lines.Whole at
-readLines (suc n) s at line =
-    afterReading (lines.Broken line) (readLineAt s at) (λ day hour count from p. readLines n s p (line + 1))

@@ -1,39 +1,29 @@
-// The lines of a text.
+// The event lines and the read lines of a text: judged, and put into lent slices as they are read.
+ghost use mathlib.Core.List.{flatten};
 ghost use mathlib.Core.Path.{_≡_};
 ghost use Prim.Native.Nat.{_≤_};
-ghost use Rattle.form.specs.Lines.{headAt, eventLineAt, valuesAt, readLineAt, eventLines};
-ghost use Rattle.form.specs.Places.{placedLines};
-use crate::numbers::Number;
-use crate::numbers::Step;
-use crate::numbers::field_at;
-use crate::numbers::mark_at;
-use crate::numbers::number_at;
-use crate::numbers::word_at;
+ghost use lib.Seq.{sets};
+ghost use Rattle.form.specs.Lines.{eventLineAt, headAt, readLineAt, linesEnd, linesSaid};
+ghost use Rattle.form.specs.Places.{putRead, bookIn, hoursTold, placedLines};
 use crate::places::first_misplaced;
 use crate::places::misplaced;
 use crate::places::place_of;
+use numerals::Field;
+use numerals::Row;
+use numerals::Step;
+use numerals::field_at;
+use numerals::row_at;
+use numerals::word_at;
 
-// The day, s and e of an event line, and the position after it.
-pub enum Event {
-    Line(u32, u32, u32, usize),
-    Broken,
-}
-
-// The day and the hour that an event line or a read line starts with, and the position after them.
+// The day and the hour that a read line starts with, and the position after them.
 pub enum Head {
     Start(u32, u32, usize),
     Broken,
 }
 
-// How many values a read line has, and the position after them.
-pub enum Values {
-    Run(u32, usize),
-    Broken,
-}
-
-// The day, the hour and the number of values of a read line, the position where the values start, and the one after the line.
-pub enum Reading {
-    Line(u32, u32, u32, usize, usize),
+// The day, the first hour and the number of hours of a read line, and the position after it.
+pub enum Hours {
+    Of(u32, u32, u32, usize),
     Broken,
 }
 
@@ -49,95 +39,93 @@ pub enum Placed {
     Broken(usize),
 }
 
-// A key and two numbers, with a comma after each.
-pub(crate) fn head_at(text: &[u8], at: usize, key: &[u8]) -> Head
-    ensures { λ r. ⌜ r ≡ headAt (now (text .entry)) at (now (key .entry)) ⌝ }
+// `event=day,s,e`, its numbers put into the list from index k on.
+fn event_line(text: &[u8], at: usize, list: &mut [u32], k: usize) -> Step
+    ensures { λ r. ⌜ r ≡ eventLineAt (now (text .entry)) at .end ⌝ }
+    ensures { λ _. ⌜ now (list .exit) ≡ sets (now (list .entry)) k (eventLineAt (now (text .entry)) at .said) ⌝ }
 {
-    let Step::To(p) = word_at(text, at, key) else {
-        return Head::Broken;
+    let Step::To(p) = word_at(text, at, b"event=") else {
+        return Step::Broken;
     };
-    let Number::Is(day, q) = field_at(text, p, b',') else {
-        return Head::Broken;
+    let Row::Of(count, next) = row_at(text, p, 3, list, k) else {
+        return Step::Broken;
     };
-    let Number::Is(hour, next) = field_at(text, q, b',') else {
-        return Head::Broken;
-    };
-    Head::Start(day, hour, next)
-}
-
-// `event=day,s,e`
-pub(crate) fn event_line(text: &[u8], at: usize) -> Event
-    ensures { λ r. ⌜ r ≡ eventLineAt (now (text .entry)) at ⌝ }
-{
-    let Head::Start(day, start, p) = head_at(text, at, b"event=") else {
-        return Event::Broken;
-    };
-    let Number::Is(end, next) = field_at(text, p, b'\n') else {
-        return Event::Broken;
-    };
-    Event::Line(day, start, end, next)
-}
-
-// 1 to 24 values, each ended by a comma but the last, which ends the line.
-fn value_run(text: &[u8], at: usize) -> Values
-    ensures { λ r. ⌜ r ≡ valuesAt 24 (now (text .entry)) at 0 ⌝ }
-{
-    let mut left: u32 = 24;
-    let mut count: u32 = 0;
-    let mut i = at;
-    while 0 < left {
-        let Number::Is(_, p) = number_at(text, i) else {
-            return Values::Broken;
-        };
-        count += 1;
-        left -= 1;
-        if let Step::To(next) = mark_at(text, p, b'\n') {
-            return Values::Run(count, next);
-        }
-        let Step::To(q) = mark_at(text, p, b',') else {
-            return Values::Broken;
-        };
-        i = q;
+    if count != 3 {
+        return Step::Broken;
     }
-    Values::Broken
+    Step::To(next)
 }
 
-// `read=day,hour,v,..`
-fn read_line(text: &[u8], at: usize) -> Reading
-    ensures { λ r. ⌜ r ≡ readLineAt (now (text .entry)) at ⌝ }
-{
-    let Head::Start(day, hour, from) = head_at(text, at, b"read=") else {
-        return Reading::Broken;
-    };
-    let Values::Run(count, next) = value_run(text, from) else {
-        return Reading::Broken;
-    };
-    Reading::Line(day, hour, count, from, next)
-}
-
-// So many event lines from a position on, of which the first is line `first` of the text.
-pub(crate) fn event_lines(text: &[u8], at: usize, events: u32, first: usize) -> Lines
-    requires { ⌜ first ≤ 8589934592 ⌝ }
-    ensures { λ r. ⌜ r ≡ eventLines events (now (text .entry)) at first ⌝ }
+// So many event lines from a position on, of which the first is line 4 of the text.
+pub(crate) fn event_lines(text: &[u8], at: usize, events: u32, list: &mut [u32]) -> Lines
+    ensures { λ r. ⌜ r ≡ linesEnd (eventLineAt (now (text .entry))) events at 4 ⌝ }
+    ensures { λ _. ⌜ now (list .exit) ≡ sets (now (list .entry)) 0 (flatten (linesSaid (eventLineAt (now (text .entry))) events at)) ⌝ }
 {
     let mut left = events;
     let mut i = at;
-    let mut line = first;
+    let mut line: usize = 4;
+    let mut k: usize = 0;
     while 0 < left {
-        let Event::Line(_, _, _, next) = event_line(text, i) else {
+        let Step::To(next) = event_line(text, i, list, k) else {
             return Lines::Broken(line);
         };
         i = next;
+        k += 3;
         line += 1;
         left -= 1;
     }
     Lines::Whole(i)
 }
 
-// The same of read lines, and the first of them that is misplaced in a book of so many days.
-pub(crate) fn read_lines(text: &[u8], at: usize, reads: u32, first: usize, days: usize) -> Placed
+// `read=day,hour,`
+fn head_at(text: &[u8], at: usize) -> Head
+    ensures { λ r. ⌜ r ≡ headAt (now (text .entry)) at ⌝ }
+{
+    let Step::To(p) = word_at(text, at, b"read=") else {
+        return Head::Broken;
+    };
+    let Field::Is(day, first, q) = field_at(text, p) else {
+        return Head::Broken;
+    };
+    if first != b',' {
+        return Head::Broken;
+    }
+    let Field::Is(hour, second, next) = field_at(text, q) else {
+        return Head::Broken;
+    };
+    if second != b',' {
+        return Head::Broken;
+    }
+    Head::Start(day, hour, next)
+}
+
+// `read=day,hour,v,..`, its values put into the book at their hours.
+fn read_line(text: &[u8], at: usize, book: &mut [u32]) -> Hours
+    ensures { λ r. ⌜ r ≡ hoursTold (readLineAt (now (text .entry)) at) ⌝ }
+    ensures { λ _. ⌜ now (book .exit) ≡ putRead (readLineAt (now (text .entry)) at .said) (now (book .entry)) ⌝ }
+{
+    let Head::Start(day, hour, from) = head_at(text, at) else {
+        return Hours::Broken;
+    };
+    let Row::Of(count, next) = row_at(text, from, 24, book, place_of(day, hour)) else {
+        return Hours::Broken;
+    };
+    Hours::Of(day, hour, count, next)
+}
+
+// So many read lines from a position on, of which the first is line `first` of the text, and the first of them that is misplaced in a book of
+// so many days.
+pub(crate) fn read_lines(
+    text: &[u8],
+    at: usize,
+    reads: u32,
+    first: usize,
+    days: usize,
+    book: &mut [u32],
+) -> Placed
     requires { ⌜ (1 ≤ first) × (first ≤ 8589934592) ⌝ }
     ensures { λ r. ⌜ r ≡ placedLines days reads (now (text .entry)) at first ⌝ }
+    ensures { λ _. ⌜ now (book .exit) ≡ bookIn (linesSaid (readLineAt (now (text .entry))) reads at) (now (book .entry)) ⌝ }
 {
     let mut left = reads;
     let mut i = at;
@@ -145,7 +133,7 @@ pub(crate) fn read_lines(text: &[u8], at: usize, reads: u32, first: usize, days:
     let mut end: usize = 0;
     let mut found: usize = 0;
     while 0 < left {
-        let Reading::Line(day, hour, count, _, next) = read_line(text, i) else {
+        let Hours::Of(day, hour, count, next) = read_line(text, i, book) else {
             return Placed::Broken(line);
         };
         found = first_misplaced(found, line, misplaced(days, end, day, hour, count));

@@ -3,7 +3,7 @@ ghost use mathlib.Core.Bool.{cond};
 ghost use mathlib.Core.Path.{_≡_};
 ghost use Prim.Native.Nat.{_≤_};
 ghost use lib.Dec.{eqb};
-ghost use Rattle.form.specs.Places.{bookDays, hourPlace, misplaced};
+ghost use Rattle.form.specs.Places.{bookDays, hourPlace, misplacedBy};
 use dates::Days;
 
 // The days of a winter's book; 0 where no winter has that name.
@@ -26,7 +26,7 @@ pub(crate) fn place_of(day: u32, hour: u32) -> usize
 
 // 31: a read line is outside the book or the day, or starts before the end of the one before.
 pub(crate) fn misplaced(days: usize, end: usize, day: u32, hour: u32, count: u32) -> bool
-    ensures { λ r. ⌜ r ≡ misplaced days end day hour count ⌝ }
+    ensures { λ r. ⌜ r ≡ misplacedBy days end day hour count ⌝ }
 {
     let start = place_of(day, hour);
     (days <= day as usize) | (24 < hour as usize + count as usize) | (start < end)

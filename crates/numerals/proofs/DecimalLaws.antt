@@ -1,20 +1,34 @@
--- The digits of a number: one below 10, else those of its tenth and one more; at most 20 for a number of 64 bits; none of them leads with 0
--- but in 0 itself; and the byte that ends a number behind them. Proved by recursion on how many digits are allowed, on which the digits do
--- not depend.
+-- The digits of a number: one below 10, else those of its tenth and one more; at most 20 for a number of 64 bits; each the byte of a digit;
+-- and none of them leads with 0 but in 0 itself. Proved by recursion on how many digits are allowed, on which the digits do not depend.
 -- Assumes nothing.
 use Prim.Native.Nat.{ℕ, zero, suc, _+_, _-_, _*_, _/_, _%_, _^_, _≤_, _<_}
 use mathlib.Core.Bool.{Bool, true, false, cond}
-use mathlib.Core.List.{List, [], _∷_, _++_, append-assoc}
+use mathlib.Core.List.{List, [], _∷_, _++_}
 use mathlib.Core.Logic.{_⊎_, ⊎-elim}
 use mathlib.Core.Path.{_≡_, refl, ap, _∙_}
 use native.Mathlib.Nat.{div-lt-iff-lt-mul, lt-of-lt-of-le}
 use native.Mathlib.Numerals.{unary-clauses}
 use native.Mathlib.Omega.{arith}
-use lib.Dec.{ltb, lit<, lit≤}
+use lib.Dec.{ltb, leb, lit<, lit≤}
 use lib.ListN.{length, length-append}
-use borrow.Author.Tests.{lt-ltb, le-ltb, ltb-false}
+use borrow.Author.Tests.{lt-ltb, le-ltb, ltb-false, le-leb, leb-true}
+use Rattle.laws.proofs.Every.{Every, joined}
+use Rattle.laws.proofs.Guards.{both}
 use Rattle.laws.proofs.Order.{either-order}
-use Rattle.numerals.specs.Decimal.{digitByte, digitsIn, decimal, field}
+use Rattle.numerals.specs.Decimal.{digitByte, isDigit, digitsIn, decimal}
+
+-- the bytes of the digits are 48 to 57
+pub record DigitByte (b : ℕ) : Type 0 where
+  pub low : 48 ≤ b
+  pub high : b ≤ 57
+
+pub digit-range : (b : ℕ) → isDigit b ≡ true → DigitByte b
+unfolding isDigit
+digit-range b e = let t = both (leb 48 b) (leb b 57) e in record { low = leb-true 48 b (t .0); high = leb-true b 57 (t .1) }
+
+pub digit-is : (b : ℕ) → DigitByte b → isDigit b ≡ true
+unfolding isDigit
+digit-is b d = rw (le-leb 48 b (d .low), le-leb b 57 (d .high))
 
 by-test : {A : Type 0} (t : Bool) (x y z : A) → (t ≡ false → y ≡ z) → cond t x y ≡ cond t x z
 by-test true x y z h = refl
@@ -51,6 +65,19 @@ length-one n h = ap length (decimal-one n h)
 pub length-more : (n : ℕ) → 10 ≤ n → length (decimal n) ≡ length (decimal (n / 10)) + 1
 length-more n h = ap length (decimal-more n h) ∙ length-append (decimal (n / 10)) (digitByte (n % 10) ∷ [])
 
+-- each of them is the byte of a digit
+all-digits : (f n : ℕ) → n < f → Every DigitByte (decimal n)
+all-digits zero n h = absurd (omega arith)
+all-digits (suc f) n h =
+    ⊎-elim (λ (a : n < 10). rw (decimal-one n a) (record { low = omega arith; high = omega arith }, tt))
+    (λ (a : 10 ≤ n).
+    let last : DigitByte (digitByte (n % 10)) = record { low = omega arith; high = omega arith } in
+    rw (decimal-more n a) (joined DigitByte (decimal (n / 10)) (digitByte (n % 10) ∷ []) (all-digits f (n / 10) (omega arith)) (last, tt)))
+    (either-order n 10)
+
+pub decimal-digits : (n : ℕ) → Every DigitByte (decimal n)
+decimal-digits n = all-digits (suc n) n (omega arith)
+
 -- so many digits hold every number below that power of 10
 short : (k n : ℕ) → n < 10 ^ suc k → length (decimal n) ≤ suc k
 short zero n h = let e : n < 10 = h in omega (arith, length-one n e)
@@ -61,21 +88,6 @@ short (suc k) n h =
 
 pub decimal-short : (n : ℕ) → n < 18446744073709551616 → length (decimal n) ≤ 20
 decimal-short n h = short 19 n (lt-of-lt-of-le h (lit≤ tt))
-
--- a number and the byte that ends it: alone, before other bytes, and how many bytes they are
-pub field-is : (n end : ℕ) → field n end ≡ decimal n ++ (end ∷ [])
-unfolding field
-field-is n end = refl
-
-pub field-before : (n end : ℕ) (l : List ℕ) → field n end ++ l ≡ decimal n ++ (end ∷ l)
-field-before n end l = rw (field-is n end) (append-assoc (decimal n) (end ∷ []) l)
-
-pub length-field : (n end : ℕ) → length (field n end) ≡ length (decimal n) + 1
-length-field n end = ap length (field-is n end) ∙ length-append (decimal n) (end ∷ [])
-
--- a number of 64 bits and the byte that ends it take at most 21 bytes
-pub field-short : (n end : ℕ) → n < 18446744073709551616 → length (field n end) ≤ 21
-field-short n end h = omega (arith, decimal-short n h, length-field n end)
 
 -- the first digit of a number above 0 is not 0
 pub record Lead (n : ℕ) : Type 0 where

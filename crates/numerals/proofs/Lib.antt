@@ -1,4 +1,14 @@
 pub mod DecimalLaws
-pub mod LineLaws
-pub mod ReadBack
+pub mod FieldLaws
+pub mod FieldWalk
+pub mod Here
 pub mod LineEnds
+pub mod LineLaws
+pub mod PutLaws
+pub mod ReadBack
+pub mod ReadFields
+pub mod RowLaws
+pub mod Stores
+pub mod Ways
+pub mod WrittenFields
+pub mod WrittenRows

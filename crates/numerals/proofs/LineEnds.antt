@@ -1,23 +1,21 @@
--- Some lines have as many line ends as they are, where no key holds byte 10: each line has its own, which is its last byte, so that a part
--- of a line that is not the whole of it has none. Proved by recursion on a bound of a number, on the numbers of a line and on the lines.
+-- Some lines have as many line ends as they are, where no key and no field holds byte 10: each line has its own, which is its last byte, so
+-- that a part of a line that is not the whole of it has none. Proved by recursion on the fields of a line and on the lines.
 -- Assumes nothing.
-use Prim.Native.Nat.{ℕ, zero, suc, _+_, _/_, _%_, _≤_, _<_}
+use Prim.Native.Nat.{ℕ, _+_, _≤_}
 use mathlib.Core.Bool.{cond}
-use mathlib.Core.List.{List, [], _∷_, _++_, append-assoc}
-use mathlib.Core.Logic.{⊎-elim}
+use mathlib.Core.List.{List, [], _∷_, _++_, append-assoc, map}
 use mathlib.Core.Path.{_≡_, refl, sym, ap, _∙_}
 use native.Mathlib.Omega.{arith}
 use lib.Dec.{eqb}
 use lib.ListN.{length, take, drop, length-append, take-append-drop}
 use lib.Seq.{take-append-le, take-at}
 use borrow.Author.Tests.{ne-eqb}
-use Rattle.laws.proofs.Every.{Every}
-use Rattle.laws.proofs.Order.{either-order}
-use Rattle.numerals.specs.Decimal.{digitByte, decimal, field}
-use Rattle.numerals.specs.Lines.{Line, fields, lineBytes, bytesOfLines}
+use Rattle.laws.proofs.Every.{Every, all, map-of}
+use Rattle.numerals.specs.Decimal.{decimal}
+use Rattle.numerals.specs.Lines.{Line, fieldBytes, lineBytes, bytesOfLines}
 use Rattle.numerals.specs.Words.{comma, lineEnd}
-use Rattle.numerals.proofs.DecimalLaws.{decimal-one, decimal-more, field-is}
-use Rattle.numerals.proofs.LineLaws.{fields-last, fields-more, line-is, lines-none, lines-more}
+use Rattle.numerals.proofs.DecimalLaws.{DigitByte, decimal-digits}
+use Rattle.numerals.proofs.LineLaws.{fields-last, fields-more, numberLine, line-is, lines-none, lines-more}
 
 -- how many line ends are among some bytes
 abbrev pub ends : List ℕ → ℕ
@@ -29,54 +27,53 @@ ends-append [] ys = omega arith
 ends-append (x ∷ xs) ys = omega (arith, ends-append xs ys)
 
 -- none is among digits
-digit-none : (d : ℕ) → ends (digitByte d ∷ []) ≡ 0
-digit-none d = rw (ne-eqb (48 + d) 10 (λ e. omega arith))
+digits-none : (bytes : List ℕ) → Every DigitByte bytes → ends bytes ≡ 0
+digits-none [] h = refl
+digits-none (b ∷ bytes) h = rw (ne-eqb b lineEnd (λ e. omega arith)) (omega (arith, digits-none bytes (h .1)))
 
-digits-none : (f n : ℕ) → n < f → ends (decimal n) ≡ 0
-digits-none zero n h = absurd (omega arith)
-digits-none (suc f) n h =
-    ⊎-elim (λ (a : n < 10). ap ends (decimal-one n a) ∙ digit-none n)
-    (λ (a : 10 ≤ n). omega (
-      arith,
-      ap ends (decimal-more n a),
-      ends-append (decimal (n / 10)) (digitByte (n % 10) ∷ []),
-      digits-none f (n / 10) (omega arith),
-      digit-none (n % 10),
-    ))
-    (either-order n 10)
-
-field-none : (n : ℕ) → ends (field n comma) ≡ 0
-field-none n =
-    omega (arith, ap ends (field-is n comma), ends-append (decimal n) (comma ∷ []), digits-none (suc n) n (omega arith))
+abbrev NoLineEnd : List ℕ → Type 0
+NoLineEnd bytes = ends bytes ≡ 0
 
 -- bytes of which the last, and no other, ends a line
 record Ended (bytes : List ℕ) : Type 0 where
   before : List ℕ
-  none : ends before ≡ 0
+  none : NoLineEnd before
   is : bytes ≡ before ++ (lineEnd ∷ [])
 
 -- they are so behind bytes without a line end
-behind : (xs ys : List ℕ) → ends xs ≡ 0 → Ended ys → Ended (xs ++ ys)
+behind : (xs ys : List ℕ) → NoLineEnd xs → Ended ys → Ended (xs ++ ys)
 behind xs ys z e = record {
   before = xs ++ e .before;
   none = omega (arith, ends-append xs (e .before), e .none);
   is = ap (λ (l : List ℕ). xs ++ l) (e .is) ∙ sym (append-assoc xs (e .before) (lineEnd ∷ []));
 }
 
-fields-ended : (n : ℕ) (ns : List ℕ) → Ended (fields (n ∷ ns))
-fields-ended n [] = record { before = decimal n; none = digits-none (suc n) n (omega arith); is = fields-last n ∙ field-is n lineEnd }
-fields-ended n (m ∷ ns) = rw (fields-more n m ns) (behind (field n comma) (fields (m ∷ ns)) (field-none n) (fields-ended m ns))
+fields-ended : (f : List ℕ) (fs : List (List ℕ)) → Every NoLineEnd (f ∷ fs) → Ended (fieldBytes (f ∷ fs))
+fields-ended f [] h = record { before = f; none = h .0; is = fields-last f }
+fields-ended f (g ∷ fs) h =
+    let rest = behind (comma ∷ []) (fieldBytes (g ∷ fs)) refl (fields-ended g fs (h .1)) in
+    rw (fields-more f g fs) (behind f (comma ∷ fieldBytes (g ∷ fs)) (h .0) rest)
 
--- a line whose key has no line end, and that has a number
-abbrev pub EndsOnce : Line → Type 0
-EndsOnce x = (ends (x .key) ≡ 0) × (1 ≤ length (x .numbers))
+-- a line of which no key and no field has a line end, and that has a field
+pub record EndsOnce (x : Line) : Type 0 where
+  pub key : NoLineEnd (x .key)
+  pub fields : Every NoLineEnd (x .fields)
+  pub some : 1 ≤ length (x .fields)
 
-some-ended : (ns : List ℕ) → 1 ≤ length ns → Ended (fields ns)
-some-ended [] h = absurd (omega arith)
-some-ended (n ∷ ns) h = fields-ended n ns
+-- as a line of numbers
+pub numbers-end-once : (key ns : List ℕ) → ends key ≡ 0 → 1 ≤ length (map decimal ns) → EndsOnce (numberLine key ns)
+numbers-end-once key ns none some = record {
+  key = none;
+  fields = map-of NoLineEnd decimal ns (all (λ (n : ℕ). ends (decimal n) ≡ 0) (λ n. digits-none (decimal n) (decimal-digits n)) ns);
+  some = some;
+}
+
+some-ended : (fs : List (List ℕ)) → Every NoLineEnd fs → 1 ≤ length fs → Ended (fieldBytes fs)
+some-ended [] h k = absurd (omega arith)
+some-ended (f ∷ fs) h k = fields-ended f fs h
 
 line-ended : (x : Line) → EndsOnce x → Ended (lineBytes x)
-line-ended x h = rw (line-is x) (behind (x .key) (fields (x .numbers)) (h .0) (some-ended (x .numbers) (h .1)))
+line-ended x h = rw (line-is x) (behind (x .key) (fieldBytes (x .fields)) (h .key) (some-ended (x .fields) (h .fields) (h .some)))
 
 -- each of some lines has its one line end
 pub lines-ends : (xs : List Line) → Every EndsOnce xs → ends (bytesOfLines xs) ≡ length xs

@@ -1,26 +1,35 @@
--- Lines as bytes: the numbers of a line one by one, a line by its key and its numbers, and lines one by one and in two parts.
+-- Lines as bytes: the fields of a line one by one, a line by its key and its fields, and lines one by one and in two parts.
 -- Assumes nothing.
 use Prim.Native.Nat.{ℕ}
-use mathlib.Core.List.{List, [], _∷_, _++_, append-assoc, append-nil}
+use mathlib.Core.List.{List, [], _∷_, _++_, append-assoc, append-nil, map}
 use mathlib.Core.Path.{_≡_, refl, sym, ap, _∙_}
-use Rattle.numerals.specs.Decimal.{field}
-use Rattle.numerals.specs.Lines.{Line, fields, lineBytes, bytesOfLines}
+use Rattle.numerals.specs.Decimal.{decimal}
+use Rattle.numerals.specs.Lines.{Line, fieldBytes, lineBytes, bytesOfLines}
 use Rattle.numerals.specs.Words.{comma, lineEnd}
 
-pub fields-last : (n : ℕ) → fields (n ∷ []) ≡ field n lineEnd
-unfolding fields
-fields-last n = refl
+pub fields-last : (f : List ℕ) → fieldBytes (f ∷ []) ≡ f ++ (lineEnd ∷ [])
+unfolding fieldBytes
+fields-last f = refl
 
-pub fields-more : (n m : ℕ) (ns : List ℕ) → fields (n ∷ m ∷ ns) ≡ field n comma ++ fields (m ∷ ns)
-unfolding fields
-fields-more n m ns = refl
+pub fields-more : (f g : List ℕ) (fs : List (List ℕ)) → fieldBytes (f ∷ g ∷ fs) ≡ f ++ (comma ∷ fieldBytes (g ∷ fs))
+unfolding fieldBytes
+fields-more f g fs = refl
 
-pub line-is : (x : Line) → lineBytes x ≡ x .key ++ fields (x .numbers)
+pub line-is : (x : Line) → lineBytes x ≡ x .key ++ fieldBytes (x .fields)
 unfolding lineBytes
 line-is x = refl
 
--- a line of one number
-pub line-one : (key : List ℕ) (n : ℕ) → lineBytes (record { key = key; numbers = n ∷ [] }) ≡ key ++ field n lineEnd
+-- a line of numbers, of one number, and the numbers of a line as bytes
+abbrev pub numberLine : List ℕ → List ℕ → Line
+numberLine key ns = record { key = key; fields = map decimal ns }
+
+abbrev pub keyLine : List ℕ → ℕ → Line
+keyLine key n = numberLine key (n ∷ [])
+
+abbrev pub numberBytes : List ℕ → List ℕ
+numberBytes ns = fieldBytes (map decimal ns)
+
+pub line-one : (key : List ℕ) (n : ℕ) → lineBytes (keyLine key n) ≡ key ++ (decimal n ++ (lineEnd ∷ []))
 line-one key n = rw (line-is, fields-last)
 
 pub lines-none : bytesOfLines [] ≡ []

@@ -1,3 +1,2 @@
-pub mod PutLaws
 pub mod RoomLaws
 pub mod Shows

@@ -10,7 +10,7 @@ use lib.ListN.{length, drop}
 use lib.Seq.{sets-eq}
 use borrow.Author.Tests.{le-ltb, lt-leb, ltb-false, leb-false}
 use Rattle.laws.proofs.Guards.{neither}
-use Rattle.printing.specs.Put.{Put}
+use Rattle.numerals.specs.Put.{Put}
 use Rattle.printing.specs.Room.{cannotPrint, printed, printedCount}
 
 -- four numbers a notice, and a line's room for each and for the rest

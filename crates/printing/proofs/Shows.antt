@@ -7,13 +7,15 @@ use mathlib.Core.List.{List, [], _∷_, _++_}
 use mathlib.Core.Path.{_≡_, refl, sym, ap, _∙_}
 use lib.ListN.{length, take, drop}
 use lib.Seq.{take-at}
-use Rattle.laws.proofs.RowLaws.{Wide, rows-none, rows-more, rows-long, rows-same, parts-same}
+use Rattle.laws.proofs.Every.{Every, joined}
+use Rattle.laws.proofs.RowLaws.{Wide, rows-none, rows-more, rows-long, rows-same, parts-same, all-rows}
 use Rattle.laws.specs.Rows.{rowsTo}
-use Rattle.notices.specs.Notices.{countOf}
-use Rattle.numerals.specs.Lines.{Line}
-use Rattle.numerals.specs.Numbers.{numbersIn, numbersOfLines, plainKeys}
-use Rattle.numerals.proofs.ReadBack.{read-back, above-plain, plain-append, numbers-none, numbers-one, numbers-more, numbers-append}
+use Rattle.notices.specs.Notices.{countOf, noticeAt}
+use Rattle.numerals.specs.Lines.{Line, line}
+use Rattle.numerals.specs.Numbers.{numbersIn, numbersOf, numbersOfLines}
+use Rattle.numerals.proofs.ReadBack.{Plain, read-back, plain-line, number-back, numbers-back, numbers-none, numbers-one, numbers-more, numbers-append}
 use Rattle.printing.specs.Room.{printed, printedCount}
+use Rattle.printing.specs.Settled.{settledIn, numbersFor}
 use Rattle.printing.specs.Sheet.{refusedLines, refusedBytes, noticeLine, noticeLines, statementLines, statementBytes}
 
 -- so many bytes as are answered, from the front of the output, are what was to be printed
@@ -24,7 +26,8 @@ shown bytes out e = rw e (take-at bytes (drop (length bytes) out) (length bytes)
 -- a refused text
 pub refused-numbers : (number place : ℕ) → numbersIn (refusedBytes number place) ≡ number ∷ place ∷ []
 unfolding refusedLines
-refused-numbers number place = read-back (refusedLines number place) (above-plain _ refl) ∙ numbers-one _
+refused-numbers number place =
+    read-back (refusedLines number place) (plain-line "refused=" (number ∷ place ∷ []) refl, tt) ∙ numbers-one _ ∙ numbers-back (number ∷ place ∷ [])
 
 pub refused-same : (n m p q : ℕ) → refusedBytes n p ≡ refusedBytes m q → (n ≡ m) × (p ≡ q)
 refused-same n m p q e =
@@ -40,12 +43,11 @@ module _ (l out : List ℕ) where
   lineRow k = noticeLine l out k ∷ []
 
   abbrev numberRow : ℕ → List ℕ
-  numberRow k = noticeLine l out k .numbers
+  numberRow k = numbersOf (noticeLine l out k)
 
-  lines-plain : (k : ℕ) → plainKeys (noticeLines l out k) ≡ true
+  lines-plain : (k : ℕ) → Every Plain (noticeLines l out k)
   unfolding noticeLine
-  lines-plain zero = rw (rows-none lineRow) (above-plain [] refl)
-  lines-plain (suc k) = rw (rows-more lineRow k) (plain-append (noticeLines l out k) (lineRow k) (lines-plain k) (above-plain (lineRow k) refl))
+  lines-plain n = all-rows Plain lineRow n (λ k h. (plain-line "line=" (numbersFor (noticeAt l k) (settledIn out k)) refl, tt))
 
   -- the numbers of the lines are rows of seven
   sevens : (k : ℕ) → numbersOfLines (noticeLines l out k) ≡ rowsTo numberRow k
@@ -61,21 +63,24 @@ module _ (l out : List ℕ) where
   sevens-long k = ap length (sevens k) ∙ rows-long seven-wide k
 
 module _ (w p : ℕ) (l out : List ℕ) (energy cents : ℕ) where
-  statement-plain : plainKeys (statementLines w p l out energy cents) ≡ true
+  statement-plain : Every Plain (statementLines w p l out energy cents)
   unfolding statementLines
   statement-plain =
-      plain-append (_ ∷ _ ∷ _ ∷ []) _ (above-plain _ refl)
-      (plain-append (noticeLines l out (countOf l)) _ (lines-plain l out (countOf l)) (above-plain _ refl))
+      let energy-line = plain-line "energy=" (energy ∷ []) refl in
+      let total-line = plain-line "total=" (cents ∷ []) refl in
+      let totals = line "energy=" (energy ∷ []) ∷ line "total=" (cents ∷ []) ∷ [] in
+      let body = joined Plain (noticeLines l out (countOf l)) totals (lines-plain l out (countOf l)) (energy-line, (total-line, tt)) in
+      (plain-line "winter=" (w ∷ []) refl, (plain-line "price=" (p ∷ []) refl, (plain-line "events=" (countOf l ∷ []) refl, body)))
 
   pub statement-numbers : numbersIn (statementBytes w p l out energy cents) ≡ shownNumbers w p l out energy cents
   unfolding statementLines
   statement-numbers =
-      read-back (statementLines w p l out energy cents) statement-plain ∙ simp (numbers-one, numbers-more, numbers-append)
+      read-back (statementLines w p l out energy cents) statement-plain ∙ simp (numbers-one, numbers-more, numbers-append, number-back)
 
 module _ (l l′ out out′ : List ℕ) where
   -- equal numbers of n notices are equal notice by notice
   sevens-same : (n k : ℕ) → k < n → numbersOfLines (noticeLines l out n) ≡ numbersOfLines (noticeLines l′ out′ n)
-      → noticeLine l out k .numbers ≡ noticeLine l′ out′ k .numbers
+      → numbersOf (noticeLine l out k) ≡ numbersOf (noticeLine l′ out′ k)
   sevens-same n k h e = rows-same (seven-wide l out) (seven-wide l′ out′) n k h (sym (sevens l out n) ∙ e ∙ sevens l′ out′ n)
 
   -- equal statements: winter, price and totals are equal, and there are as many notices, with the same seven numbers each
@@ -83,7 +88,7 @@ module _ (l l′ out out′ : List ℕ) where
       → (w ≡ w′)
       × (p ≡ p′)
       × (countOf l ≡ countOf l′)
-      × ((k : ℕ) → k < countOf l → noticeLine l out k .numbers ≡ noticeLine l′ out′ k .numbers)
+      × ((k : ℕ) → k < countOf l → numbersOf (noticeLine l out k) ≡ numbersOf (noticeLine l′ out′ k))
       × (energy ≡ energy′)
       × (cents ≡ cents′)
   statement-same w w′ p p′ energy energy′ cents cents′ e =

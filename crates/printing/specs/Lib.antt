@@ -1,4 +1,3 @@
-pub mod Put
 pub mod Room
 pub mod Settled
 pub mod Sheet

@@ -12,5 +12,8 @@ abbrev pub settledIn : List ℕ → ℕ → Settled
 settledIn out k = record { code = codeIn out k; place = placeIn out k; energy = energyIn out k; cents = centsIn out k }
 
 -- "`line=` holds day, s, e, code, place, energy, cents."
+abbrev pub numbersFor : Notice → Settled → List ℕ
+numbersFor n s = n .day ∷ n .start ∷ n .end ∷ s .code ∷ s .place ∷ s .energy ∷ s .cents ∷ []
+
 abbrev pub lineFor : Notice → Settled → Line
-lineFor n s = line "line=" (n .day ∷ n .start ∷ n .end ∷ s .code ∷ s .place ∷ s .energy ∷ s .cents ∷ [])
+lineFor n s = line "line=" (numbersFor n s)

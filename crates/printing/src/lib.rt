@@ -1,5 +1,4 @@
 // The statement of a settlement as bytes, and the line of a refused text.
-mod bytes;
 mod lines;
 mod sheet;
 

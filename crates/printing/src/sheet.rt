@@ -5,13 +5,11 @@ ghost use Prim.Native.Nat.{_+_, _*_, _≤_};
 ghost use lib.ListN.{length};
 ghost use Rattle.notices.specs.Notices.{countOf};
 ghost use Rattle.numerals.specs.Lines.{line, bytesOfLines};
-ghost use Rattle.printing.specs.Put.{Put};
+ghost use Rattle.numerals.specs.Put.{Put};
 ghost use Rattle.printing.specs.Room.{cannotPrint, printed, printedCount};
 ghost use Rattle.printing.specs.Sheet.{refusedBytes, statementBytes};
-use crate::bytes::put_field;
-use crate::bytes::put_key;
-use crate::bytes::put_keyed;
 use crate::lines::put_lines;
+use numerals::put_line;
 
 // Whether some notices cannot be printed. Divided on both sides, so that no length is too large.
 fn cannot_print(notices: usize, numbers: usize, room: usize) -> bool
@@ -26,9 +24,7 @@ fn put_refusal(out: &mut [u8], number: u64, place: u64) -> usize
     ensures { λ r. ⌜ Put (now (out .entry)) 0 (refusedBytes number place) r (now (out .exit)) ⌝ }
     ensures { λ r. ⌜ r ≤ 50 ⌝ }
 {
-    let first = put_key(out, 0, b"refused=");
-    let second = put_field(out, first, number, b',');
-    put_field(out, second, place, b'\n')
+    put_line(out, 0, b"refused=", &[number, place])
 }
 
 // Puts winter, price and number of notices at the front of the output.
@@ -37,9 +33,9 @@ fn put_head(out: &mut [u8], winter: u64, price: u64, notices: u64) -> usize
     ensures { λ r. ⌜ Put (now (out .entry)) 0 (bytesOfLines (line "winter=" (winter ∷ []) ∷ line "price=" (price ∷ []) ∷ line "events=" (notices ∷ []) ∷ [])) r (now (out .exit)) ⌝ }
     ensures { λ r. ⌜ r ≤ 83 ⌝ }
 {
-    let second = put_keyed(out, 0, b"winter=", winter);
-    let third = put_keyed(out, second, b"price=", price);
-    put_keyed(out, third, b"events=", notices)
+    let second = put_line(out, 0, b"winter=", &[winter]);
+    let third = put_line(out, second, b"price=", &[price]);
+    put_line(out, third, b"events=", &[notices])
 }
 
 // Puts total energy and total cents.
@@ -48,8 +44,8 @@ fn put_totals(out: &mut [u8], at: usize, energy: u64, cents: u64) -> usize
     ensures { λ r. ⌜ Put (now (out .entry)) at (bytesOfLines (line "energy=" (energy ∷ []) ∷ line "total=" (cents ∷ []) ∷ [])) r (now (out .exit)) ⌝ }
     ensures { λ r. ⌜ r ≤ at + 55 ⌝ }
 {
-    let last = put_keyed(out, at, b"energy=", energy);
-    put_keyed(out, last, b"total=", cents)
+    let last = put_line(out, at, b"energy=", &[energy]);
+    put_line(out, last, b"total=", &[cents])
 }
 
 // Puts a statement that has room.

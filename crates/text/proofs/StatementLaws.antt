@@ -1,25 +1,27 @@
 -- What is printed of a text, by the ways on which the call comes to its answer: one law for each refusal and one for the settlement.
 -- Assumes nothing.
-use Prim.Native.Nat.{ℕ, _*_, _/_, _≤_, _<_, min}
+use Prim.Native.Nat.{ℕ, _+_, _*_, _/_, _≤_, _<_}
 use mathlib.Core.Bool.{Bool, true, false, cond}
 use mathlib.Core.List.{List}
 use mathlib.Core.Logic.{⊎-elim}
 use mathlib.Core.Path.{_≡_, refl, sym, ap, _∙_}
 use native.Mathlib.Omega.{arith}
 use lib.ListN.{length, take, drop, replicate, length-append, length-replicate}
-use lib.Seq.{sets}
+use lib.Seq.{sets, sets-eq, take-at}
 use borrow.Author.Tests.{eq-eqb, ne-eqb, lt-ltb, le-ltb}
 use Rattle.dates.proofs.Promise.{days-two}
 use Rattle.dates.specs.Winters.{noWinter, days}
 use Rattle.book.specs.Length.{bookLength, mostReadings}
 use Rattle.book.specs.Values.{missingMark}
-use Rattle.form.proofs.Formed.{book-once}
-use Rattle.form.specs.Form.{formOf}
-use Rattle.form.specs.Said.{eventsOf, bookRead}
+use Rattle.form.proofs.Formed.{notices-long}
+use Rattle.form.proofs.PlaceLaws.{book-front}
+use Rattle.form.specs.Document.{ReadLine}
+use Rattle.form.specs.Form.{formOf, noticesSaid, readsSaid}
+use Rattle.form.specs.Places.{bookIn}
 use Rattle.form.specs.declared.whole.Form.{Form}
 use Rattle.form.specs.declared.whole.Form.the-variants as form
 use Rattle.form.specs.declared.whole.Shape.{Shape}
-use Rattle.laws.proofs.Stores.{sets-whole, take-replicate}
+use Rattle.laws.proofs.Stores.{take-replicate}
 use Rattle.laws.specs.Table.{refusalAt, firstOf, isRefusal}
 use Rattle.credit.proofs.RefusalLaws.{call-right}
 use Rattle.credit.proofs.SettlementLaws.{call-refused, written-just}
@@ -28,18 +30,15 @@ use Rattle.settlement.specs.Events.{eventAt}
 use Rattle.credit.specs.Refusals.{callRows}
 use Rattle.credit.specs.Settlement.{refusedWith, settlement, written}
 use Rattle.credit.specs.declared.call.Settlement.{Settlement}
-use Rattle.notices.specs.Notices.{noticeNumbers, mostNotices, countIn, countOf}
+use Rattle.notices.specs.Notices.{noticeNumbers, mostNotices, longestList, countIn, countOf}
 use Rattle.printing.proofs.RoomLaws.{can-print, all-printed}
 use Rattle.printing.specs.Room.{cannotPrint, printed, printedCount}
 use Rattle.printing.specs.Sheet.{refusedBytes, statementBytes}
+use Rattle.text.specs.Prints.{Prints, Holds, PrintsHeld, shapeBytes}
 use Rattle.text.specs.Statement.{mostBytes, noReadings, roomFor, settlementBytes, settledBytes, valuesBytes, formBytes, statementOf, answerRoom, tooSmall, startsWith, answered, answeredIn}
 
--- so many bytes at the front of an output, and then what it held
-abbrev pub Prints : List ℕ → List ℕ → ℕ → List ℕ → Type 0
-Prints bytes out n after = (n ≡ length bytes) × (after ≡ startsWith bytes out)
-
-pub prints-same : (out : List ℕ) {bytes other after : List ℕ} {n : ℕ} → bytes ≡ other → Prints bytes out n after → Prints other out n after
-prints-same out e p = rw (← e) p
+pub prints-same : {out bytes other after : List ℕ} {n : ℕ} → Prints bytes out n after → bytes ≡ other → Prints other out n after
+prints-same p e = rw (← e) p
 
 -- what is printed where there is the room of every answer and not too many notices
 pub prints : (bytes out after : List ℕ) (n notices numbers : ℕ) → 4 * notices ≤ numbers → notices ≤ mostNotices → answerRoom ≤ length out
@@ -47,7 +46,7 @@ pub prints : (bytes out after : List ℕ) (n notices numbers : ℕ) → 4 * noti
     → Prints bytes out n after
 prints bytes out after n notices numbers a b c e =
     let all = all-printed bytes out (can-print notices numbers (length out) a (omega arith)) in
-    (e .0 ∙ all .0, e .1 ∙ all .1)
+    record { count = e .0 ∙ all .0; front = e .1 ∙ all .1 }
 
 -- the settlement s of a list into lines, for which there is just the room
 module _ (w p : ℕ) (book l lines : List ℕ) (j : length lines ≡ roomFor l) (s : Settlement) (e : s ≡ settlement w book p l (length lines)) where
@@ -76,8 +75,8 @@ module _ (w p : ℕ) (book l lines : List ℕ) (j : length lines ≡ roomFor l) 
       × (after ≡ printed (cannotPrint (countOf l) (length filled) (length out)) (statementBytes w p l filled (s .energy) (s .cents)) out)
       → Prints (settledBytes w book p l) out n after
   statement-printed z few filled out after n f g room shown =
-      prints-same out (ap (λ (x : List ℕ). statementBytes w p l x (s .energy) (s .cents)) f ∙ settled-printed z)
-      (prints (statementBytes w p l filled (s .energy) (s .cents)) out after n (countOf l) (length filled) (omega arith) few room shown)
+      prints-same (prints (statementBytes w p l filled (s .energy) (s .cents)) out after n (countOf l) (length filled) (omega arith) few room shown)
+      (ap (λ (x : List ℕ). statementBytes w p l x (s .energy) (s .cents)) f ∙ settled-printed z)
 
 -- too many notices are refused by the call's own rows, whatever they are
 pub many-refused : (w p number : ℕ) (book l : List ℕ) (n : ℕ) → length l ≡ noticeNumbers * n → mostNotices < n
@@ -92,38 +91,39 @@ many-refused w p number book l n h m e =
     settled-refused w p book l (replicate (roomFor l) 0) just (refusedWith number 0) (rw just (call-refused w p book l (roomFor l) number row some)) some
 
 -- a text that has the form: the winter, the first misplaced line, and then the settlement
-module _ (s : List ℕ) (f : Shape) where
-  pub winter-refused : noWinter (f .winter) ≡ true → refusedBytes 1 0 ≡ formBytes s (form.Whole f)
-  unfolding formBytes valuesBytes
+module _ (w p : ℕ) (l : List ℕ) (line : ℕ) (book : List ℕ) where
+  pub winter-refused : noWinter w ≡ true → refusedBytes 1 0 ≡ valuesBytes w p l line book
+  unfolding valuesBytes
   winter-refused e = rw e
 
-  module _ (e : noWinter (f .winter) ≡ false) where
-    pub misplaced-refused : (f .misplaced ≡ 0 → ⊥) → refusedBytes 31 (f .misplaced) ≡ formBytes s (form.Whole f)
-    unfolding formBytes valuesBytes
-    misplaced-refused n = rw (e, ne-eqb (f .misplaced) 0 n)
+  module _ (e : noWinter w ≡ false) where
+    pub misplaced-refused : (line ≡ 0 → ⊥) → refusedBytes 31 line ≡ valuesBytes w p l line book
+    unfolding valuesBytes
+    misplaced-refused n = rw (e, ne-eqb line 0 n)
 
-    -- the book that was filled as the text was read
-    pub values-settled : formOf s ≡ form.Whole f → f .misplaced ≡ 0 → (book filled : List ℕ) → book ≡ noReadings (f .winter)
-        → filled ≡ bookRead (f .reads) s (f .«reads_at») book
-        → settledBytes (f .winter) filled (f .price) (eventsOf (f .events) s (f .«events_at»)) ≡ formBytes s (form.Whole f)
-    unfolding formBytes valuesBytes
-    values-settled g z book filled b h = rw (e, z, h, book-once s f g book, b)
+    pub values-settled : line ≡ 0 → settledBytes w book p l ≡ valuesBytes w p l line book
+    unfolding valuesBytes
+    values-settled z = rw (e, z)
 
--- the book of a right winter, cut from one of 152 days
+-- the book of a right winter, cut from one of 152 days, is the one that the text fills
 pub book-fits : (w n : ℕ) → n ≡ days w → bookLength n ≤ mostReadings
 book-fits w n e = ⊎-elim (λ d. omega (arith, e, d)) (λ d. omega (arith, e, d)) (days-two w)
 
-pub winter-book : (w n hours : ℕ) → n ≡ days w → hours ≡ bookLength n → take hours (replicate mostReadings missingMark) ≡ noReadings w
-winter-book w n hours e long =
-    ap (λ (k : ℕ). take k (replicate mostReadings missingMark)) long
-    ∙ take-replicate (bookLength n) mostReadings missingMark (book-fits w n e) ∙ ap (λ (k : ℕ). replicate (bookLength k) missingMark) e
+pub winter-book : (w : ℕ) (xs : List ReadLine) → take (bookLength (days w)) (bookIn xs (replicate mostReadings missingMark)) ≡ bookIn xs (noReadings w)
+winter-book w xs =
+    book-front (bookLength (days w)) xs (replicate mostReadings missingMark)
+    ∙ ap (bookIn xs) (take-replicate (bookLength (days w)) mostReadings missingMark (book-fits w (days w) refl))
 
--- the list that was filled with just the room for it
-pub list-filled : (s list : List ℕ) (at events : ℕ) → length (eventsOf events s at) ≡ 3 * events → length list ≡ 3 * events
-    → sets list 0 (eventsOf (min events (length list / 3)) s at) ≡ eventsOf events s at
-list-filled s list at events e h =
-    let third : min events (length list / 3) ≡ events = omega arith in
-    rw third (sets-whole list (eventsOf events s at) (e ∙ sym h))
+-- the front of the list that the text fills is its notices
+pub list-front : (events : ℕ) (l list : List ℕ) → events ≤ 100 → Holds events l list → take (noticeNumbers * events) list ≡ l
+list-front events l list few h =
+    let fits : 0 + length l ≤ length (replicate {A = ℕ} longestList 0) = omega (arith, length-replicate {A = ℕ} longestList 0, h .three) in
+    ap (take (noticeNumbers * events)) (h .held ∙ sets-eq l (replicate longestList 0) 0 fits) ∙ take-at l _ (noticeNumbers * events) (h .three)
+
+-- what is printed of the shape and of the arrays that the text fills is what is printed of the text
+by-shape : (s : List ℕ) (f : Shape) → shapeBytes f (bookIn (readsSaid s) (replicate mostReadings missingMark)) (noticesSaid s) ≡ formBytes s (form.Whole f)
+unfolding formBytes
+by-shape s f = rw (winter-book (f .winter) (readsSaid s))
 
 -- the answer to any text
 module _ (s out : List ℕ) where
@@ -134,13 +134,13 @@ module _ (s out : List ℕ) where
   module _ (room : answerRoom ≤ length out) {n : ℕ} {after : List ℕ} where
     answers : Prints (statementOf s) out n after → (n ≡ answered s out) × (after ≡ answeredIn s out)
     unfolding answered answeredIn
-    answers p = rw (le-ltb (length out) answerRoom room) p
+    answers p = rw (le-ltb (length out) answerRoom room) (p .count, p .front)
 
     pub too-long : mostBytes < length s → Prints (refusedBytes 32 0) out n after → (n ≡ answered s out) × (after ≡ answeredIn s out)
     unfolding statementOf
     too-long h p = answers (rw (lt-ltb mostBytes (length s) h) p)
 
-    pub by-form : length s ≤ mostBytes → (f : Form) → f ≡ formOf s → Prints (formBytes s f) out n after → (n ≡ answered s out) × (after ≡ answeredIn s out)
+    by-form : length s ≤ mostBytes → (f : Form) → f ≡ formOf s → Prints (formBytes s f) out n after → (n ≡ answered s out) × (after ≡ answeredIn s out)
     unfolding statementOf
     by-form h f e p = answers (rw (le-ltb mostBytes (length s) h, ← e) p)
 
@@ -148,6 +148,13 @@ module _ (s out : List ℕ) where
         → (n ≡ answered s out) × (after ≡ answeredIn s out)
     unfolding formBytes
     form-broken h line e p = by-form h (form.Broken line) e p
+
+    pub by-arrays : length s ≤ mostBytes → (f : Shape) → form.Whole f ≡ formOf s → {list book : List ℕ} → list ≡ sets (replicate longestList 0) 0 (noticesSaid s)
+        → book ≡ bookIn (readsSaid s) (replicate mostReadings missingMark) → PrintsHeld (f .events) list (shapeBytes f book) out n after
+        → (n ≡ answered s out) × (after ≡ answeredIn s out)
+    by-arrays h f e held filled p =
+        let notices = p .for-each (noticesSaid s) (record { three = notices-long s f (sym e); held = held }) in
+        by-form h (form.Whole f) e (prints-same notices (rw filled (by-shape s f)))
 
 -- what is answered fits the output: nothing of what was printed can have been lost where the output is as long as before
 pub answered-within : (s out after : List ℕ) (n : ℕ) → (n ≡ answered s out) × (after ≡ answeredIn s out) → length after ≡ length out → n ≤ length after

@@ -14,12 +14,13 @@ use Rattle.dates.specs.Winters.{noWinter, days}
 use Rattle.energy.specs.Line.{eventAnswer}
 use Rattle.event_hours.specs.Days.{masksOf}
 use Rattle.form.proofs.Converse.{Held, form-written}
-use Rattle.form.proofs.FirstBroken.{FirstBroken, broken-first}
+use Rattle.form.proofs.Begins.{FirstBroken}
+use Rattle.form.proofs.FirstBroken.{broken-first}
 use Rattle.form.proofs.PlaceLaws.{book-days}
 use Rattle.form.proofs.RoundTrip.{text-read}
-use Rattle.form.specs.Document.{Document, textOf, Writable, noticesIn, misplacedLineIn, bookIn}
+use Rattle.form.specs.Document.{Document, textOf, Writable, noticesIn}
 use Rattle.form.specs.Form.{formOf}
-use Rattle.form.specs.Places.{bookDays}
+use Rattle.form.specs.Places.{bookDays, misplacedLineIn, bookIn}
 use Rattle.form.specs.declared.whole.Form.{Form}
 use Rattle.form.specs.declared.whole.Form.the-variants as form
 use Rattle.laws.specs.Answer.{given}
@@ -60,7 +61,7 @@ unfolding statementOf formBytes
 text-settled d ok h =
     let read = text-read d ok in
     let says = read .1 in
-    rw (le-ltb mostBytes (length (textOf d)) h, read .0, says .notices, says .book (noReadings (d .winter)))
+    rw (le-ltb mostBytes (length (textOf d)) h, read .0, says .notices, says .read-lines)
     (own-days d (noticesIn (d .events)) (bookIn (d .reads) (noReadings (d .winter))))
 
 -- and a text of no values is refused with 30 and the first line that breaks the form

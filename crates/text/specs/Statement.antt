@@ -9,10 +9,11 @@ use lib.ListN.{length, drop, replicate}
 use Rattle.book.specs.Length.{bookLength}
 use Rattle.book.specs.Values.{missingMark}
 use Rattle.dates.specs.Winters.{noWinter, days}
-use Rattle.form.specs.Form.{formOf}
-use Rattle.form.specs.Said.{eventsOf, bookOf}
+use Rattle.form.specs.Form.{formOf, noticesSaid, readsSaid}
+use Rattle.form.specs.Places.{bookIn}
 use Rattle.form.specs.declared.whole.Form.{Form}
 use Rattle.form.specs.declared.whole.Form.the-variants as form
+use Rattle.credit.specs.Lines.{lineNumbers}
 use Rattle.credit.specs.Settlement.{settlement, written}
 use Rattle.credit.specs.declared.call.Settlement.{Settlement}
 use Rattle.notices.specs.Notices.{countOf}
@@ -28,7 +29,7 @@ noReadings w = replicate (bookLength (days w)) missingMark
 
 -- an output with just the room for the lines of a list: four numbers a notice
 abbrev pub roomFor : List ℕ → ℕ
-roomFor l = 4 * countOf l
+roomFor l = lineNumbers * countOf l
 
 -- what is printed of a settlement and the output it fills: the line of its refusal, or the statement
 unfoldable pub settlementBytes : ℕ → ℕ → List ℕ → List ℕ → Settlement → List ℕ
@@ -45,9 +46,7 @@ valuesBytes w p l line book = cond (noWinter w) (refusedBytes 1 0) (cond (eqb li
 -- a text that has the form, and one that has not
 unfoldable pub formBytes : List ℕ → Form → List ℕ
 formBytes s (form.Broken line) = refusedBytes 30 line
-formBytes s (form.Whole f) =
-    valuesBytes (f .winter) (f .price) (eventsOf (f .events) s (f .«events_at»)) (f .misplaced)
-    (bookOf (f .reads) s (f .«reads_at») (noReadings (f .winter)))
+formBytes s (form.Whole f) = valuesBytes (f .winter) (f .price) (noticesSaid s) (f .misplaced) (bookIn (readsSaid s) (noReadings (f .winter)))
 
 -- the bytes of the statement of a text, or of its refusal
 unfoldable pub statementOf : List ℕ → List ℕ

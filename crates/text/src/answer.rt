@@ -1,36 +1,79 @@
 // The answer to a text.
-ghost use mathlib.Core.Bool.{false};
 ghost use mathlib.Core.Path.{_≡_};
 ghost use Prim.Native.Nat.{_≤_};
 ghost use lib.ListN.{length};
-ghost use Rattle.dates.specs.Winters.{noWinter};
-ghost use Rattle.form.specs.Form.{formOf};
-ghost use Rattle.form.specs.declared.whole.Form.the-variants as form;
-ghost use Rattle.text.specs.Statement.{answerRoom, startsWith, noReadings, formBytes, answered, answeredIn};
-use crate::settled::print_notices;
-use crate::settled::refuse;
+ghost use Rattle.notices.specs.Notices.{longestList};
+ghost use Rattle.printing.specs.Sheet.{refusedBytes};
+ghost use Rattle.text.specs.Prints.{Prints, PrintsHeld, Arrays, Settles, shapeBytes};
+ghost use Rattle.text.specs.Statement.{answerRoom, settledBytes, answered, answeredIn};
 use dates::Days;
 use form::Form;
 use form::Shape;
 
-// Prints the answer to a text that has the form, whose winter is right and which has no misplaced line, with a book in which all readings are
-// missing.
-fn print_read(text: &[u8], shape: Shape, book: &mut [u32], out: &mut [u8]) -> usize
-    requires { ⌜ formOf (now text) ≡ form.Whole shape ⌝ }
-    requires { ⌜ (noWinter (shape .winter) ≡ false) × (shape .misplaced ≡ 0) × (now book ≡ noReadings (shape .winter)) × (answerRoom ≤ length (now out)) ⌝ }
-    ensures { λ r. ⌜ r ≡ length (formBytes (now (text .entry)) (form.Whole shape)) ⌝ }
-    ensures { λ _. ⌜ now (out .exit) ≡ startsWith (formBytes (now (text .entry)) (form.Whole shape)) (now (out .entry)) ⌝ }
+// Prints the line of a refused text.
+fn refuse(number: u32, place: u64, out: &mut [u8]) -> usize
+    requires { ⌜ answerRoom ≤ length (now out) ⌝ }
+    ensures { λ r. ⌜ Prints (refusedBytes number place) (now (out .entry)) r (now (out .exit)) ⌝ }
 {
-    form::fill_book(text, shape, book);
-    print_notices(text, shape, book, out)
+    printing::print_refusal(number, place, out)
 }
 
-// The same of any winter and any lines, with room of its own for the book.
-fn print_formed(text: &[u8], shape: Shape, out: &mut [u8]) -> usize
-    requires { ⌜ formOf (now text) ≡ form.Whole shape ⌝ }
-    requires { ⌜ answerRoom ≤ length (now out) ⌝ }
-    ensures { λ r. ⌜ r ≡ length (formBytes (now (text .entry)) (form.Whole shape)) ⌝ }
-    ensures { λ _. ⌜ now (out .exit) ≡ startsWith (formBytes (now (text .entry)) (form.Whole shape)) (now (out .entry)) ⌝ }
+// Settles a list into lines, for which there is just the room, and prints the settlement.
+fn print_settled(
+    winter: u32,
+    book: &[u32],
+    price: u32,
+    list: &[u32],
+    lines: &mut [u64],
+    out: &mut [u8],
+) -> usize
+    requires { ⌜ Settles (now list) (now lines) (now out) ⌝ }
+    ensures { λ r. ⌜ Prints (settledBytes winter (now (book .entry)) price (now (list .entry))) (now (out .entry)) r (now (out .exit)) ⌝ }
+{
+    let s = credit::settle(winter, book, price, list, lines);
+    let number = s.number;
+    let place = s.place;
+    if number != 0 {
+        return refuse(number, place as u64, out);
+    }
+    let energy = s.energy;
+    let cents = s.cents;
+    printing::print_statement(winter, price, list, lines, energy, cents, out)
+}
+
+// Prints the settlement of the notices of a text, of which the list has room for 100. More are refused, with 3 or 4, by how many they are.
+fn print_notices(shape: Shape, list: &[u32], book: &[u32], out: &mut [u8]) -> usize
+    requires { ⌜ (length (now list) ≡ longestList) × (answerRoom ≤ length (now out)) ⌝ }
+    ensures { λ r. ⌜ PrintsHeld (shape .events) (now (list .entry)) (settledBytes (shape .winter) (now (book .entry)) (shape .price)) (now (out .entry)) r (now (out .exit)) ⌝ }
+{
+    let events = shape.events as usize;
+    if notices::MOST_NOTICES < events {
+        let number = credit::call_refusal(
+            shape.winter,
+            book.len(),
+            shape.price,
+            notices::NOTICE_NUMBERS * events,
+            credit::LINE_NUMBERS * events,
+        );
+        return refuse(number, 0, out);
+    }
+    let mut lines = [0u64; credit::MOST_LINE_NUMBERS];
+    let winter = shape.winter;
+    let price = shape.price;
+    print_settled(
+        winter,
+        book,
+        price,
+        &list[..notices::NOTICE_NUMBERS * events],
+        &mut lines[..credit::LINE_NUMBERS * events],
+        out,
+    )
+}
+
+// Prints the answer to a text that has the form, from the front of its notices and the book of 152 days that it filled.
+fn print_formed(shape: Shape, list: &[u32], book: &[u32], out: &mut [u8]) -> usize
+    requires { ⌜ Arrays (now list) (now book) (now out) ⌝ }
+    ensures { λ r. ⌜ PrintsHeld (shape .events) (now (list .entry)) (shapeBytes shape (now (book .entry))) (now (out .entry)) r (now (out .exit)) ⌝ }
 {
     let Days::Are(days) = dates::winter_days(shape.winter) else {
         return refuse(1, 0, out);
@@ -40,8 +83,7 @@ fn print_formed(text: &[u8], shape: Shape, out: &mut [u8]) -> usize
         return refuse(31, line as u64, out);
     }
     let hours = book::length_of(days);
-    let mut book = [book::MISSING_MARK; book::MOST_READINGS];
-    print_read(text, shape, &mut book[..hours], out)
+    print_notices(shape, list, &book[..hours], out)
 }
 
 // Writes the statement of a text, or its refusal, at the front of the output, and answers how many bytes it wrote; 0, and it writes nothing,
@@ -56,8 +98,10 @@ pub fn statement(text: &[u8], out: &mut [u8]) -> usize
     if 65_536 < text.len() {
         return refuse(32, 0, out);
     }
-    match form::form_of(text) {
+    let mut list = [0u32; notices::LONGEST_LIST];
+    let mut book = [book::MISSING_MARK; book::MOST_READINGS];
+    match form::read_text(text, &mut list, &mut book) {
         Form::Broken(line) => refuse(30, line as u64, out),
-        Form::Whole(shape) => print_formed(text, shape, out),
+        Form::Whole(shape) => print_formed(shape, &list, &book, out),
     }
 }

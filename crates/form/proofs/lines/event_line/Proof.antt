@@ -1,70 +1,87 @@
--- An event line is the definition's: each return by the calls that led to it.
+-- An event line is the definition's, and its numbers are stored: one law for each way out.
 -- Assumes nothing.
-use Rattle.form.specs.Lines.{eventLineAt}
+use mathlib.Core.Path.{sym, _∙_}
 use borrow.Author.Needs.{needs}
+use Rattle.form.proofs.LineLaws.{event-no-word, event-broken, event-other, event-is}
 use Rattle.form.proofs.lines.event_line.Statement.{statement}
 use Rattle.form.proofs.lines.event_line.Tie as tie
 
-slice-aggregate-head-at : tie.Need-slice-aggregate-head-at
-slice-aggregate-head-at c = search needs
+slice-aggregate-word-at : tie.Need-slice-aggregate-word-at
+slice-aggregate-word-at c = search needs
 
-head-at-requires : tie.Need-head-at-requires
-head-at-requires c κs = search needs
+word-at-requires : tie.Need-word-at-requires
+word-at-requires c κs = search needs
 
-enum-known-day : tie.Need-enum-known-day
-enum-known-day c = search needs
+enum-known-p : tie.Need-enum-known-p
+enum-known-p c = search needs
 
 enum-told : tie.Need-enum-told
 enum-told c = search needs
 
 returns : tie.Need-returns
-unfolding eventLineAt
 returns c =
-    rw (
-      ← c .before .before .head-at .ensures,
-      c .enum-told .given .1,
-    )
+    let word = c .before .before in
+    event-no-word _ _ _ _ (sym (word .word-at .ensures) ∙ c .enum-told .given .1)
 
-field-at-requires : tie.Need-field-at-requires
-field-at-requires c κs = search needs
+row-at-requires : tie.Need-row-at-requires
+row-at-requires c κs = search needs
 
-enum-known-end : tie.Need-enum-known-end
-enum-known-end c = search needs
+enum-known-count : tie.Need-enum-known-count
+enum-known-count c = search needs
 
 enum-told-2 : tie.Need-enum-told-2
 enum-told-2 c = search needs
 
+same-length : tie.Need-same-length
+same-length c = search needs
+
 returns-2 : tie.Need-returns-2
-unfolding eventLineAt
 returns-2 c =
-    rw (
-      ← c .before .before .before .before .before .before .head-at .ensures,
-      c .before .before .before .before .day .given .1,
-      ← c .before .before .field-at .ensures,
-      c .enum-told2 .given .1,
-    )
+    let row = c .before .before .before .before in
+    let past = row .before .before .before in
+    let word = past .before .before in
+    let there = sym (word .word-at .ensures) ∙ past .p .given .1 in
+    event-broken _ _ _ _ there (row .row-at .ensures .1) (sym (c .enum-told2 .given .1) ∙ row .row-at .ensures .0)
+
+same-length-2 : tie.Need-same-length-2
+same-length-2 c = search needs
 
 returns-3 : tie.Need-returns-3
-unfolding eventLineAt
 returns-3 c =
-    rw (
-      ← c .before .before .before .before .before .before .before .head-at .ensures,
-      c .before .before .before .before .before .day .given .1,
-      ← c .before .before .before .field-at .ensures,
-      c .before .end .given .1,
-    )
+    let known = c .before .before in
+    let row = known .before .before .before .before in
+    let past = row .before .before .before in
+    let word = past .before .before in
+    let there = sym (word .word-at .ensures) ∙ past .p .given .1 in
+    event-other _ _ _ _ there (row .row-at .ensures .1) (sym (known .count .given .1) ∙ row .row-at .ensures .0) (c .if1 .taken)
+
+same-length-3 : tie.Need-same-length-3
+same-length-3 c = search needs
+
+returns-4 : tie.Need-returns-4
+returns-4 c =
+    let known = c .before .before in
+    let row = known .before .before .before .before in
+    let past = row .before .before .before in
+    let word = past .before .before in
+    let there = sym (word .word-at .ensures) ∙ past .p .given .1 in
+    event-is _ _ _ _ there (row .row-at .ensures .1) (sym (known .count .given .1) ∙ row .row-at .ensures .0) (c .if1 .left)
 
 pub event-line-spec : {M : Type 1} → statement M
 event-line-spec =
     tie.close
     (tie.spec
-    slice-aggregate-head-at
-    head-at-requires
-    enum-known-day
+    slice-aggregate-word-at
+    word-at-requires
+    enum-known-p
     enum-told
     returns
-    field-at-requires
-    enum-known-end
+    row-at-requires
+    enum-known-count
     enum-told-2
+    same-length
     returns-2
-    returns-3)
+    same-length-2
+    returns-3
+    same-length-3
+    returns-4)

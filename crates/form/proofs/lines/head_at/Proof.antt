@@ -1,9 +1,13 @@
--- A key and two numbers, with a comma after each, are the definition's: each return by the calls that led to it.
+-- The start of a read line is the definition's: each return by the calls that led to it.
 -- Assumes nothing.
-use Rattle.form.specs.Lines.{headAt}
 use borrow.Author.Needs.{needs}
+use borrow.Author.Tests.{eq-eqb, ne-eqb}
+use Rattle.form.specs.Lines.{headAt}
 use Rattle.form.proofs.lines.head_at.Statement.{statement}
 use Rattle.form.proofs.lines.head_at.Tie as tie
+
+slice-aggregate-word-at : tie.Need-slice-aggregate-word-at
+slice-aggregate-word-at c = search needs
 
 word-at-requires : tie.Need-word-at-requires
 word-at-requires c κs = search needs
@@ -16,11 +20,7 @@ enum-told c = search needs
 
 returns : tie.Need-returns
 unfolding headAt
-returns c =
-    rw (
-      ← c .before .before .word-at .ensures,
-      c .enum-told .given .1,
-    )
+returns c = rw (← c .before .before .word-at .ensures, c .enum-told .given .1)
 
 field-at-requires : tie.Need-field-at-requires
 field-at-requires c κs = search needs
@@ -34,12 +34,19 @@ enum-told-2 c = search needs
 returns-2 : tie.Need-returns-2
 unfolding headAt
 returns-2 c =
-    rw (
-      ← c .before .before .before .before .before .before .word-at .ensures,
-      c .before .before .before .before .p .given .1,
-      ← c .before .before .field-at .ensures,
-      c .enum-told2 .given .1,
-    )
+    let first = c .before .before in
+    let past = first .before .before in
+    let word = past .before .before in
+    rw (← word .word-at .ensures, past .p .given .1, ← first .field-at .ensures, c .enum-told2 .given .1)
+
+returns-3 : tie.Need-returns-3
+unfolding headAt
+returns-3 c =
+    let day = c .before .before in
+    let first = day .before .before in
+    let past = first .before .before in
+    let word = past .before .before in
+    rw (← word .word-at .ensures, past .p .given .1, ← first .field-at .ensures, day .day .given .1, ne-eqb _ _ (c .if1 .taken))
 
 field-at-requires-2 : tie.Need-field-at-requires-2
 field-at-requires-2 c κs = search needs
@@ -50,34 +57,72 @@ enum-known-hour c = search needs
 enum-told-3 : tie.Need-enum-told-3
 enum-told-3 c = search needs
 
-returns-3 : tie.Need-returns-3
-unfolding headAt
-returns-3 c =
-    rw (
-      ← c .before .before .before .before .before .before .before .before .before .before .word-at .ensures,
-      c .before .before .before .before .before .before .before .before .p .given .1,
-      ← c .before .before .before .before .before .before .field-at .ensures,
-      c .before .before .before .before .day .given .1,
-      ← c .before .before .field-at2 .ensures,
-      c .enum-told3 .given .1,
-    )
-
 returns-4 : tie.Need-returns-4
 unfolding headAt
 returns-4 c =
+    let second = c .before .before in
+    let ended = second .before in
+    let day = ended .before .before in
+    let first = day .before .before in
+    let past = first .before .before in
+    let word = past .before .before in
     rw (
-      ← c .before .before .before .before .before .before .before .before .before .before .before .word-at .ensures,
-      c .before .before .before .before .before .before .before .before .before .p .given .1,
-      ← c .before .before .before .before .before .before .before .field-at .ensures,
-      c .before .before .before .before .before .day .given .1,
-      ← c .before .before .before .field-at2 .ensures,
-      c .before .hour .given .1,
+      ← word .word-at .ensures,
+      past .p .given .1,
+      ← first .field-at .ensures,
+      day .day .given .1,
+      eq-eqb _ _ (ended .if1 .left),
+      ← second .field-at2 .ensures,
+      c .enum-told3 .given .1,
+    )
+
+returns-5 : tie.Need-returns-5
+unfolding headAt
+returns-5 c =
+    let hour = c .before .before in
+    let second = hour .before .before in
+    let ended = second .before in
+    let day = ended .before .before in
+    let first = day .before .before in
+    let past = first .before .before in
+    let word = past .before .before in
+    rw (
+      ← word .word-at .ensures,
+      past .p .given .1,
+      ← first .field-at .ensures,
+      day .day .given .1,
+      eq-eqb _ _ (ended .if1 .left),
+      ← second .field-at2 .ensures,
+      hour .hour .given .1,
+      ne-eqb _ _ (c .if2 .taken),
+    )
+
+returns-6 : tie.Need-returns-6
+unfolding headAt
+returns-6 c =
+    let hour = c .before .before in
+    let second = hour .before .before in
+    let ended = second .before in
+    let day = ended .before .before in
+    let first = day .before .before in
+    let past = first .before .before in
+    let word = past .before .before in
+    rw (
+      ← word .word-at .ensures,
+      past .p .given .1,
+      ← first .field-at .ensures,
+      day .day .given .1,
+      eq-eqb _ _ (ended .if1 .left),
+      ← second .field-at2 .ensures,
+      hour .hour .given .1,
+      eq-eqb _ _ (c .if2 .left),
     )
 
 pub head-at-spec : {M : Type 1} → statement M
 head-at-spec =
     tie.close
     (tie.spec
+    slice-aggregate-word-at
     word-at-requires
     enum-known-p
     enum-told
@@ -86,8 +131,10 @@ head-at-spec =
     enum-known-day
     enum-told-2
     returns-2
+    returns-3
     field-at-requires-2
     enum-known-hour
     enum-told-3
-    returns-3
-    returns-4)
+    returns-4
+    returns-5
+    returns-6)

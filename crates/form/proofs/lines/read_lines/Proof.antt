@@ -1,28 +1,21 @@
--- The read lines and the first misplaced one are the definition's. Invariant: the lines that are left come to the same end as all, and the
--- first misplaced line of all is the one that was found, or that of the lines that are left.
+-- The read lines and the first misplaced one are the definition's, and their values are put into the book. Invariant: what is left of them
+-- ends and puts as all do, and has the first misplaced line unless one was found (`ReadWalk`).
 -- Assumes nothing.
-use Prim.Native.Nat.{_+_, _≤_}
-use mathlib.Core.Path.{_≡_, refl, sym, _∙_}
+use mathlib.Core.Path.{sym, _∙_}
 use native.Mathlib.Omega.{arith}
-use Rattle.form.specs.Lines.{readLines}
-use Rattle.form.specs.Places.{misplacedRead}
-use Rattle.form.proofs.LineLaws.{reads-done, reads-bad, reads-more}
-use Rattle.form.proofs.PlaceLaws.{foundOr, found-done, found-turn, placed-broken, placed-whole}
 use borrow.Author.Needs.{needs}
+use Rattle.form.proofs.ReadWalk.{ReadsLeft, reads-start, reads-end, reads-stop, reads-next}
 use Rattle.form.proofs.lines.read_lines.Statement.{statement}
 use Rattle.form.proofs.lines.read_lines.Tie as tie
 
 abbrev Inv-loop : tie.InvT-loop
-Inv-loop text at reads first days left₀ i₀ line₀ end₀ found₀ left i line end found =
-    ((line + left ≡ first + reads) × (left ≤ reads))
-    × ((readLines reads text at first ≡ readLines left text i line)
-    × (misplacedRead days reads text at first 0 ≡ foundOr found (misplacedRead days left text i line end)))
+Inv-loop text at reads first days book₀ left₀ i₀ line₀ end₀ found₀ book left i line end found = ReadsLeft days text at reads first book₀ book left i line end found
 
 abbrev μ-loop : tie.MeasureT-loop
-μ-loop text at reads first days left₀ i₀ line₀ end₀ found₀ left i line end found = left
+μ-loop text at reads first days book₀ left₀ i₀ line₀ end₀ found₀ book left i line end found = left
 
 loop-holds : tie.Need-loop-holds Inv-loop μ-loop
-loop-holds c = ((refl, search needs), (refl, refl))
+loop-holds c = reads-start _ _ _ _ _ _
 
 read-line-requires : tie.Need-read-line-requires Inv-loop μ-loop
 read-line-requires c κs = search needs
@@ -33,11 +26,16 @@ enum-known-day c = search needs
 enum-told : tie.Need-enum-told Inv-loop μ-loop
 enum-told c = search needs
 
+same-length : tie.Need-same-length Inv-loop μ-loop
+same-length c = search needs
+
 returns : tie.Need-returns Inv-loop μ-loop
 returns c =
-    let l = c .before .before .before .before .loop in
-    let e = sym (c .before .before .read-line .ensures) ∙ c .enum-told .given .1 in
-    placed-broken _ _ _ _ _ (l .inv .1 .0 ∙ reads-bad _ _ _ _ (c .before .before .before .loop-test .taken) e)
+    let read = c .before .before .before .before in
+    let in-loop = read .before .before in
+    let at-loop = in-loop .before in
+    let told = read .read-line .ensures in
+    reads-stop (at-loop .loop .inv) (in-loop .loop-test .taken) (sym (c .enum-told .given .1) ∙ told .0, told .1)
 
 misplaced-requires : tie.Need-misplaced-requires Inv-loop μ-loop
 misplaced-requires c κs = search needs
@@ -65,17 +63,26 @@ loop-less c = search needs
 
 loop-again : tie.Need-loop-again Inv-loop μ-loop
 loop-again c =
-    let l = c .before .before .before .before .before .before .before .before .loop in
-    let h = c .before .before .before .before .before .before .before .loop-test .taken in
-    let e = sym (c .before .before .before .before .before .before .read-line .ensures) ∙ c .before .before .before .before .day .given .1 in
-    let turn = found-turn _ _ _ _ (l .line) (l .end) (l .found) h e _ _ (omega arith) (c .before .before .misplaced .ensures) (c .before .first-misplaced .ensures) in
-    ((omega arith, omega arith), (l .inv .1 .0 ∙ reads-more _ _ _ _ h e, rw (c .place-of .ensures .0) (l .inv .1 .1 ∙ turn)))
+    let found = c .before in
+    let tested = found .before in
+    let known = tested .before .before in
+    let read = known .before .before .before .before in
+    let in-loop = read .before .before in
+    let at-loop = in-loop .before in
+    let told = read .read-line .ensures in
+    let next =
+    reads-next (at-loop .loop .inv) (in-loop .loop-test .taken) (omega arith) (sym (known .day .given .1) ∙ told .0, told .1)
+    (tested .misplaced .ensures)
+    (found .first-misplaced .ensures) in
+    rw (c .place-of .ensures .0) next
+
+same-length-2 : tie.Need-same-length-2 Inv-loop μ-loop
+same-length-2 c = search needs
 
 returns-2 : tie.Need-returns-2 Inv-loop μ-loop
 returns-2 c =
-    let l = c .before .loop in
-    let z : l .left ≡ 0 = search needs in
-    placed-whole _ _ _ _ _ (l .inv .1 .0 ∙ reads-done _ _ _ _ z) (l .inv .1 .1 ∙ found-done _ _ _ _ _ _ _ z)
+    let at-loop = c .before in
+    reads-end (at-loop .loop .inv) (search needs)
 
 pub read-lines-spec : {M : Type 1} → statement M
 read-lines-spec =
@@ -87,6 +94,7 @@ read-lines-spec =
     read-line-requires
     enum-known-day
     enum-told
+    same-length
     returns
     misplaced-requires
     first-misplaced-requires
@@ -97,4 +105,5 @@ read-lines-spec =
     sub-left
     loop-less
     loop-again
+    same-length-2
     returns-2)

@@ -1,7 +1,7 @@
 -- The three tests of a misplaced read line are the definition's.
 -- Assumes nothing.
 use borrow.Author.Needs.{needs}
-use Rattle.form.specs.Places.{misplaced}
+use Rattle.form.specs.Places.{misplacedBy}
 use Rattle.form.proofs.places.misplaced.Statement.{statement}
 use Rattle.form.proofs.places.misplaced.Tie as tie
 
@@ -12,7 +12,7 @@ add-result : tie.Need-add-result
 add-result c = search needs
 
 returns : tie.Need-returns
-unfolding misplaced
+unfolding misplacedBy
 returns c = rw (c .place-of .ensures .0)
 
 pub misplaced-spec : {M : Type 1} → statement M

@@ -11,11 +11,11 @@ use Rattle.laws.proofs.RowLaws.{rows-none, rows-more}
 use Rattle.notices.specs.Notices.{noticeAt}
 use Rattle.notices.specs.declared.notices.Notice.{Notice}
 use Rattle.numerals.specs.Lines.{lineBytes, bytesOfLines}
-use Rattle.printing.specs.Put.{Put}
+use Rattle.numerals.specs.Put.{Put}
 use Rattle.printing.specs.Settled.{settledIn, lineFor}
 use Rattle.printing.specs.Sheet.{noticeLine, noticeLines}
 use Rattle.printing.specs.declared.lines.Settled.{Settled}
-use Rattle.printing.proofs.PutLaws.{put-length, put-none, put-last, put-both}
+use Rattle.numerals.proofs.PutLaws.{put-length, put-none, put-last, put-both}
 use Rattle.printing.proofs.lines.put_lines.Statement.{statement}
 use Rattle.printing.proofs.lines.put_lines.Tie as tie
 

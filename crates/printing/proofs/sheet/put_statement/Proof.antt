@@ -3,7 +3,7 @@
 use native.Mathlib.Omega.{arith}
 use borrow.Author.Needs.{needs}
 use Rattle.printing.specs.Sheet.{statementLines}
-use Rattle.printing.proofs.PutLaws.{put-both}
+use Rattle.numerals.proofs.PutLaws.{put-both}
 use Rattle.printing.proofs.sheet.put_statement.Statement.{statement}
 use Rattle.printing.proofs.sheet.put_statement.Tie as tie
 

@@ -1,10 +1,11 @@
--- A wrong winter is refused, and then a misplaced line; the other texts have a book of their days, in which all readings are missing.
+-- A wrong winter is refused, and then a misplaced line; the notices of the other texts are settled on the front of the book.
 -- Assumes nothing.
+use mathlib.Core.Path.{ap, _∙_}
 use native.Mathlib.Omega.{arith}
 use lib.ListN.{length-take}
-use Rattle.dates.proofs.Promise.{no-winter, is-winter, winter-count}
-use Rattle.text.proofs.StatementLaws.{prints-same, winter-refused, misplaced-refused, book-fits, winter-book}
 use borrow.Author.Needs.{needs}
+use Rattle.dates.proofs.Promise.{no-winter, is-winter, winter-count}
+use Rattle.text.proofs.StatementLaws.{prints-same, winter-refused, misplaced-refused, values-settled, book-fits}
 use Rattle.text.proofs.answer.print_formed.Statement.{statement}
 use Rattle.text.proofs.answer.print_formed.Tie as tie
 
@@ -25,10 +26,11 @@ same-length c = search needs
 
 returns : tie.Need-returns
 returns c =
-    let t = c .before .before .before .before in
-    let s = t .before .before .before .before .before in
-    prints-same (s .args .out .now) (winter-refused (s .args .text .now) (s .args .shape) (no-winter _ _ (t .enum-told .given .1) (t .before .before .winter-days .ensures)))
-    (c .before .before .refuse .ensures)
+    let refused = c .before .before in
+    let told = refused .before .before in
+    let asked = told .before .before in
+    let wrong = no-winter _ _ (told .enum-told .given .1) (asked .winter-days .ensures) in
+    record { for-each = λ l h. prints-same (refused .refuse .ensures) (winter-refused _ _ l _ _ wrong) }
 
 refuse-requires-2 : tie.Need-refuse-requires-2
 refuse-requires-2 c κs = search needs
@@ -38,41 +40,39 @@ same-length-2 c = search needs
 
 returns-2 : tie.Need-returns-2
 returns-2 c =
-    let t = c .before .before .before .before .before .before .before .before in
-    let s = t .before .before .before in
-    let w = is-winter _ _ _ (c .before .before .before .before .before .before .days .given .1) (t .winter-days .ensures) in
-    prints-same (s .args .out .now) (misplaced-refused (s .args .text .now) (s .args .shape) w (c .before .before .before .before .if1 .taken)) (c .before .before .refuse2 .ensures)
+    let refused = c .before .before in
+    let found = refused .before .before in
+    let known = found .before .before in
+    let asked = known .before .before in
+    let right = is-winter _ _ _ (known .days .given .1) (asked .winter-days .ensures) in
+    record { for-each = λ l h. prints-same (refused .refuse2 .ensures) (misplaced-refused _ _ l _ _ right (found .if1 .taken)) }
 
 length-of-requires : tie.Need-length-of-requires
 length-of-requires c κs = search needs
 
-array-borrow-prefix-book : tie.Need-array-borrow-prefix-book
-array-borrow-prefix-book c =
-    let known = c .before .before .before in
-    let fits = book-fits _ _ (winter-count _ _ _ (known .days .given .1) (known .before .before .winter-days .ensures)) in
-    omega arith
-
-slice-aggregate-print-read : tie.Need-slice-aggregate-print-read
-slice-aggregate-print-read c =
-    let known = c .before .before .before .before in
-    let fits = book-fits _ _ (winter-count _ _ _ (known .days .given .1) (known .before .before .winter-days .ensures)) in
-    simp length-take (omega arith)
-
-print-read-requires : tie.Need-print-read-requires
-print-read-requires c κs =
-    let long = c .before .before in
+slice-aggregate-print-notices : tie.Need-slice-aggregate-print-notices
+slice-aggregate-print-notices c =
+    let long = c .before in
     let known = long .before .before .before in
-    let asked = known .before .before in
-    let called = asked .before .before .before in
-    let is = winter-count _ _ _ (known .days .given .1) (asked .winter-days .ensures) in
-    let book = winter-book (called .args .shape .winter) _ (long .length-of .result) is (long .length-of .ensures) in
-    (called .pre .0, (is-winter _ _ _ (known .days .given .1) (asked .winter-days .ensures), long .before .if1 .left, book, called .pre .1))
+    let fits = book-fits _ _ (winter-count _ _ _ (known .days .given .1) (known .before .before .winter-days .ensures)) in
+    simp length-take (omega (arith, fits, long .length-of .ensures))
+
+print-notices-requires : tie.Need-print-notices-requires
+print-notices-requires c κs = search needs
 
 same-length-3 : tie.Need-same-length-3
 same-length-3 c = search needs
 
 returns-3 : tie.Need-returns-3
-returns-3 c = search needs
+returns-3 c =
+    let printed = c .before .before in
+    let long = printed .before .before .before in
+    let found = long .before in
+    let known = found .before .before in
+    let asked = known .before .before in
+    let right = is-winter _ _ _ (known .days .given .1) (asked .winter-days .ensures) in
+    let many = winter-count _ _ _ (known .days .given .1) (asked .winter-days .ensures) in
+    record { for-each = λ l h. prints-same (printed .print-notices .ensures .for-each l h) (rw (long .length-of .ensures, many) (values-settled _ _ l _ _ right (found .if1 .left))) }
 
 pub print-formed-spec : {M : Type 1} → statement M
 print-formed-spec =
@@ -88,8 +88,7 @@ print-formed-spec =
     same-length-2
     returns-2
     length-of-requires
-    array-borrow-prefix-book
-    slice-aggregate-print-read
-    print-read-requires
+    slice-aggregate-print-notices
+    print-notices-requires
     same-length-3
     returns-3)

@@ -3,7 +3,7 @@
 use mathlib.Core.Path.{sym, _∙_}
 use borrow.Author.Needs.{needs}
 use Rattle.form.proofs.OneOutcome.{form-is}
-use Rattle.text.proofs.StatementLaws.{no-room, too-long, by-form, form-broken}
+use Rattle.text.proofs.StatementLaws.{no-room, too-long, form-broken, by-arrays}
 use Rattle.text.proofs.answer.statement.Statement.{statement}
 use Rattle.text.proofs.answer.statement.Tie as tie
 
@@ -18,12 +18,19 @@ same-length c = search needs
 
 returns-2 : tie.Need-returns-2
 returns-2 c =
-    let i = c .before .before .before .before in
-    let s = i .before .before .before .before in
-    too-long (s .args .text .now) (s .args .out .now) (i .before .if1 .left) (i .if2 .taken) (c .before .before .refuse .ensures)
+    let refused = c .before .before in
+    let long = refused .before .before in
+    let a = long .before .before .before .before .args in
+    too-long (a .text .now) (a .out .now) (long .before .if1 .left) (long .if2 .taken) (refused .refuse .ensures)
 
-form-of-requires : tie.Need-form-of-requires
-form-of-requires c κs = search needs
+slice-aggregate-read-text : tie.Need-slice-aggregate-read-text
+slice-aggregate-read-text c = search needs
+
+slice-aggregate-read-text-2 : tie.Need-slice-aggregate-read-text-2
+slice-aggregate-read-text-2 c = search needs
+
+read-text-requires : tie.Need-read-text-requires
+read-text-requires c κs = search needs
 
 enum-known-line : tie.Need-enum-known-line
 enum-known-line c = search needs
@@ -34,31 +41,41 @@ refuse-requires-2 c κs = search needs
 enum-known-shape : tie.Need-enum-known-shape
 enum-known-shape c = search needs
 
+slice-aggregate-print-formed : tie.Need-slice-aggregate-print-formed
+slice-aggregate-print-formed c = search needs
+
+slice-aggregate-print-formed-2 : tie.Need-slice-aggregate-print-formed-2
+slice-aggregate-print-formed-2 c = search needs
+
 print-formed-requires : tie.Need-print-formed-requires
-print-formed-requires c κs = (
-  sym (form-is _ _ (c .before .before .before .before .form-of .ensures)) ∙ c .before .before .shape .given .1,
-  c .before .before .before .before .before .before .if1 .left,
-)
+print-formed-requires c κs = search needs
 
 same-length-2 : tie.Need-same-length-2
 same-length-2 c = search needs
 
 returns-3 : tie.Need-returns-3
 returns-3 c =
-    let t = c .before .before .before .before .before .before .before in
-    let s = t .before .before .before .before .before in
-    form-broken (s .args .text .now) (s .args .out .now) (t .before .before .if1 .left) (t .before .if2 .left) _
-    (sym (c .before .before .before .before .before .line .given .1) ∙ form-is _ _ (t .form-of .ensures)) (c .before .before .refuse2 .ensures)
+    let refused = c .before .before in
+    let known = refused .before .before .before in
+    let read = known .before .before .before .before in
+    let fits = read .before .before .before in
+    let a = fits .before .before .before .before .args in
+    form-broken (a .text .now) (a .out .now) (fits .before .if1 .left) (fits .if2 .left) _
+    (sym (known .line .given .1) ∙ form-is _ _ (read .read-text .ensures .0)) (refused .refuse2 .ensures)
 
 same-length-3 : tie.Need-same-length-3
 same-length-3 c = search needs
 
 returns-4 : tie.Need-returns-4
 returns-4 c =
-    let t = c .before .before .before .before .before .before .before in
-    let s = t .before .before .before .before .before in
-    by-form (s .args .text .now) (s .args .out .now) (t .before .before .if1 .left) (t .before .if2 .left) _
-    (sym (c .before .before .before .before .before .shape .given .1) ∙ form-is _ _ (t .form-of .ensures)) (c .before .before .print-formed .ensures)
+    let printed = c .before .before in
+    let known = printed .before .before .before .before .before in
+    let read = known .before .before .before .before in
+    let fits = read .before .before .before in
+    let a = fits .before .before .before .before .args in
+    let is = sym (known .shape .given .1) ∙ form-is _ _ (read .read-text .ensures .0) in
+    by-arrays (a .text .now) (a .out .now) (fits .before .if1 .left) (fits .if2 .left) _ is (read .read-text .ensures .1 .0) (read .read-text .ensures .1 .1)
+    (printed .print-formed .ensures)
 
 pub statement-spec : {M : Type 1} → statement M
 statement-spec =
@@ -68,10 +85,14 @@ statement-spec =
     refuse-requires
     same-length
     returns-2
-    form-of-requires
+    slice-aggregate-read-text
+    slice-aggregate-read-text-2
+    read-text-requires
     enum-known-line
     refuse-requires-2
     enum-known-shape
+    slice-aggregate-print-formed
+    slice-aggregate-print-formed-2
     print-formed-requires
     same-length-2
     returns-3

@@ -1,0 +1,13 @@
+-- The test of a digit is the definition's.
+-- Assumes nothing.
+use mathlib.Core.Path.{refl}
+use Rattle.numerals.specs.Decimal.{isDigit}
+use Rattle.numerals.proofs.fields.is_digit.Statement.{statement}
+use Rattle.numerals.proofs.fields.is_digit.Tie as tie
+
+returns : tie.Need-returns
+unfolding isDigit
+returns c = refl
+
+pub is-digit-spec : {M : Type 1} → statement M
+is-digit-spec = tie.close (tie.spec returns)
