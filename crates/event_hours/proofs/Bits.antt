@@ -43,10 +43,10 @@ pub and-both : (a b h : ℕ) → (bitAt (bitAnd a b) h ≡ 1) ↔ ((bitAt a h �
 and-both a b h = (λ e. (omega (arith, bit-and a b h), omega (arith, bit-and a b h)), λ p. omega (arith, bit-and a b h))
 
 -- every bit that is set in a is set in b
-abbrev pub Within : ℕ → ℕ → Type 0
-Within a b = (h : ℕ) → bitAt a h ≡ 1 → bitAt b h ≡ 1
+abbrev pub BitsIn : ℕ → ℕ → Type 0
+BitsIn a b = (h : ℕ) → bitAt a h ≡ 1 → bitAt b h ≡ 1
 
-within-halves : (a b : ℕ) → Within a b → Within (a / 2) (b / 2)
+within-halves : (a b : ℕ) → BitsIn a b → BitsIn (a / 2) (b / 2)
 within-halves a b f h e = sym (bit-half b h) ∙ f (suc h) (bit-half a h ∙ e)
 
 -- a bit is 0 or 1, so two bits that are 1 together are the same
@@ -56,12 +56,12 @@ same-bit zero (suc y) a b f g = let z : _≡_ {A = ℕ} 0 1 = g (omega arith) in
 same-bit (suc x) y a b f g = let z : y ≡ 1 = f (omega arith) in omega arith
 
 -- numbers up to k: their lowest bits are the same, and so are their halves
-same-up-to : (k a b : ℕ) → a ≤ k → b ≤ k → Within a b → Within b a → a ≡ b
+same-up-to : (k a b : ℕ) → a ≤ k → b ≤ k → BitsIn a b → BitsIn b a → a ≡ b
 same-up-to zero a b p q f g = omega arith
 same-up-to (suc k) a b p q f g =
     let halves : a / 2 ≡ b / 2 = same-up-to k (a / 2) (b / 2) (omega arith) (omega arith) (within-halves a b f) (within-halves b a g) in
     let lowest : bitAt a 0 ≡ bitAt b 0 = same-bit (bitAt a 0) (bitAt b 0) (omega arith) (omega arith) (f 0) (g 0) in
     omega arith
 
-pub same-bits : (a b : ℕ) → Within a b → Within b a → a ≡ b
+pub same-bits : (a b : ℕ) → BitsIn a b → BitsIn b a → a ≡ b
 same-bits a b f g = same-up-to (a + b) a b (omega arith) (omega arith) f g

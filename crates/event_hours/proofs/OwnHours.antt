@@ -16,7 +16,7 @@ use Rattle.schedule.proofs.Standing.{OneDay, Standing}
 use Rattle.event_hours.specs.Days.{hoursIn, masksOf, dayMask, eventHours}
 use Rattle.event_hours.specs.Events.{maskOn, isRun, eventOf, eventOn}
 use Rattle.event_hours.specs.Hours.{bitAt, hoursMask, bandMask, ownHours}
-use Rattle.event_hours.proofs.Bits.{Within, and-both, same-bits}
+use Rattle.event_hours.proofs.Bits.{BitsIn, and-both, same-bits}
 use Rattle.event_hours.proofs.HourLaws.{band-before, band-from, in-own-band}
 use Rattle.event_hours.proofs.HoursMask.{hours-bit, hours-ones, hours-zeros}
 use Rattle.event_hours.proofs.WhichBits.{Covers, which-bits, standing-marks}
@@ -47,7 +47,7 @@ module _ {w : ℕ} {f : Figures} {l : List ℕ} (st : Standing w f l) (k : ℕ) 
           omega (arith, v .covers .from, second .from, band-before (noticeAt l k .start) h (omega (arith, first .to, st .each k b .some-hour)) e))
           (st .later k (v .which) p (v .among))
 
-  cut-is-event : Within (eventHours l k) (hoursIn (noticeAt l k))
+  cut-is-event : BitsIn (eventHours l k) (hoursIn (noticeAt l k))
   unfolding ownHours
   cut-is-event h e =
       let p = and-both (dayMask l (noticeAt l k .day)) (bandMask (noticeAt l k .start)) h .0 e in
@@ -55,7 +55,7 @@ module _ {w : ℕ} {f : Figures} {l : List ℕ} (st : Standing w f l) (k : ℕ) 
       let q = only-this h (p .1) v in
       hours-bit (noticeAt l k .start) (noticeAt l k .end) h .1 (rw q at (v .covers .from), rw q at (v .covers .to))
 
-  event-is-cut : Within (hoursIn (noticeAt l k)) (eventHours l k)
+  event-is-cut : BitsIn (hoursIn (noticeAt l k)) (eventHours l k)
   unfolding ownHours
   event-is-cut h e =
       let q = hours-bit (noticeAt l k .start) (noticeAt l k .end) h .0 e in

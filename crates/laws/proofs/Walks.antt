@@ -64,8 +64,13 @@ module _ (rowsAt : ℕ → List Row) where
         by : (b : Bool) → isRefusal (table n) ≡ b → (isRefusal (table n) ≡ true → FirstAt rowsAt n) → FirstAt rowsAt (suc n)
         by true q before =
             let t = before q in
-            let below = t .below in
-            record { index = t .index; below = omega arith; kept-before = t .kept-before; broken = t .broken; answer = sym (more-stops n q) ∙ t .answer }
+            record {
+              index = t .index;
+              below = omega (arith, t .below);
+              kept-before = t .kept-before;
+              broken = t .broken;
+              answer = sym (more-stops n q) ∙ t .answer;
+            }
         by false q before =
             let none = unrefused-none (rowsTo rowsAt n) (walk-numbered n) q in
             let here = more-goes n none in

@@ -46,7 +46,8 @@ not-both false b h = refl
 module _ (f : Figures) (n : Notice) where
   in-band-iff : ((outside (f .morning) n && outside (f .evening) n) ≡ false) ↔ InBand f n
   in-band-iff = (
-    λ h. ⊎-elim (λ a. inl (inside-iff (f .morning) n .0 a)) (λ a. inr (inside-iff (f .evening) n .0 a)) (one-holds (outside (f .morning) n) (outside (f .evening) n) h),
+    λ h. ⊎-elim (λ a. inl (inside-iff (f .morning) n .0 a)) (λ a. inr (inside-iff (f .evening) n .0 a))
+        (one-holds (outside (f .morning) n) (outside (f .evening) n) h),
     λ r. not-both (outside (f .morning) n) (outside (f .evening) n)
         (⊎-elim (λ (i : Inside (f .morning) n). inl (inside-iff (f .morning) n .1 i)) (λ (i : Inside (f .evening) n). inr (inside-iff (f .evening) n .1 i)) r),
   )

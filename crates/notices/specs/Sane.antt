@@ -1,6 +1,6 @@
 -- All that proofs ask of a profile's figures, one line a profile: its sums stay small, and its bands lie in those of the winter credit.
 -- Assumes nothing.
-use Prim.Native.Nat.{_≤_}
+use Prim.Native.Nat.{ℕ, _≤_}
 use native.Mathlib.Omega.{arith}
 use Rattle.notices.specs.Profiles.{credit, figuresOf}
 use Rattle.notices.specs.declared.profiles.Band.{Band}
@@ -8,9 +8,13 @@ use Rattle.notices.specs.declared.profiles.Figures.{Figures}
 use Rattle.notices.specs.declared.profiles.Profile.the-variants.{Credit, PowerOption}
 use Rattle.notices.specs.declared.profiles.Profile.{Profile}
 
+-- no profile has more hours in a winter
+abbrev pub mostHours : ℕ
+mostHours = 100
+
 pub record Sane (f : Figures) : Type 0 where
   pub longest : f .longest ≤ 24
-  pub hours : f .hours ≤ 100
+  pub hours : f .hours ≤ mostHours
 
 pub sane : (p : Profile) → Sane (figuresOf p)
 unfolding figuresOf

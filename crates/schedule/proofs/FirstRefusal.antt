@@ -16,7 +16,8 @@ use Rattle.laws.specs.Table.{refusalAt, row, firstOf, isRefusal}
 use Rattle.notices.specs.Notices.{countOf, noticeAt}
 use Rattle.notices.specs.Profiles.{named}
 use Rattle.notices.specs.declared.profiles.Figures.{Figures}
-use Rattle.schedule.specs.ListCheck.{ownRows, listRows, noticeRows, sofarAt, rowsAt, noticesTable, badList, noProfile, namedFigures, checkTable, checkAnswer}
+use Rattle.schedule.specs.ListCheck.{ownRows, listRows, noticeRows, sofarAt, rowsAt, noticesTable}
+use Rattle.schedule.specs.ListCheck.{badList, noProfile, namedFigures, checkTable, checkAnswer}
 use Rattle.schedule.proofs.Walk.{Passed, none-passed, rows-numbered}
 
 pub first-refusal : (w q : ℕ) (l : List ℕ) → isRefusal (checkAnswer w q l) ≡ true → FirstBroken (checkTable w q l)

@@ -25,11 +25,12 @@ use Rattle.notices.specs.declared.profiles.Named.the-variants.{Is, NoProfile}
 use Rattle.notices.specs.declared.profiles.Named.{Named}
 use Rattle.notices.specs.declared.profiles.Profile.{Profile}
 use Rattle.schedule.specs.ListCheck.{noticesTable, badList, noProfile, namedFigures, checkedIn}
-use Rattle.schedule.specs.Rules.{outsidePeriod, onExcludedDay, barredWeekend, OnDay, sameBand, overLimit}
+use Rattle.schedule.specs.Rules.{outsidePeriod, onExcludedDay, barredWeekend, sameBand, overLimit}
+use Rattle.schedule.specs.Walkable.{KindOn}
 use Rattle.schedule.specs.declared.rules.Sofar.{Sofar}
 
 -- the rules of the day that a notice is on, by what is told of it
-module _ (w : Winter) (n : Notice) (day : Kind) (on : OnDay w (n .day) day) where
+module _ (w : Winter) (n : Notice) (day : Kind) (on : KindOn w (n .day) day) where
   pub outside-on : {b : Bool} → not (day .period) ≡ b → outsidePeriod w n ≡ b
   unfolding outsidePeriod
   outside-on e = rw (← on .period) e
@@ -53,7 +54,7 @@ module _ (f : Figures) (w : Winter) (n : Notice) where
   weekend-barred e q = rw e q
 
 -- what is told of a day past the book
-pub past-on : (w : Winter) (d : ℕ) (k : Kind) → noDay w d ≡ true → k .period ≡ false → OnDay w d k
+pub past-on : (w : Winter) (d : ℕ) (k : Kind) → noDay w d ≡ true → k .period ≡ false → KindOn w d k
 past-on w d k e p =
     let out = past-period w d e in
     record {

@@ -10,7 +10,8 @@ use Rattle.laws.proofs.ReadBack.{read-back}
 use Rattle.laws.specs.Answer.{Answer}
 use Rattle.laws.specs.Table.{isRefusal}
 use Rattle.schedule.specs.Verdicts.{ruleNumber, verdictPaper}
-use Rattle.schedule.specs.declared.verdicts.Rule.the-variants.{NoWinter, BadList, NoProfile, OutsidePeriod, ExcludedDay, Weekend, BadHours, BadLength, StartsBefore, SameBand, OverLimit}
+use Rattle.schedule.specs.declared.verdicts.Rule.the-variants.{NoWinter, BadList, NoProfile, OutsidePeriod, ExcludedDay, Weekend}
+use Rattle.schedule.specs.declared.verdicts.Rule.the-variants.{BadHours, BadLength, StartsBefore, SameBand, OverLimit}
 use Rattle.schedule.specs.declared.verdicts.Rule.{Rule}
 use Rattle.schedule.specs.declared.verdicts.Verdict.the-variants.{Accepted, Refused}
 use Rattle.schedule.specs.declared.verdicts.Verdict.{Verdict}

@@ -20,11 +20,12 @@ use Rattle.notices.proofs.HourLaws.{hours-fit}
 use Rattle.notices.proofs.NoticeLaws.{hours-none, hours-next}
 use Rattle.notices.specs.Hours.{badHours, badLength}
 use Rattle.notices.specs.Notices.{noticeNumbers, mostNotices, longestList, countIn, countOf, noticeAt, hoursOf, hoursTo}
-use Rattle.notices.specs.Sane.{Sane}
+use Rattle.notices.specs.Sane.{mostHours, Sane}
 use Rattle.notices.specs.declared.notices.Notice.{Notice}
 use Rattle.notices.specs.declared.profiles.Figures.{Figures}
 use Rattle.schedule.specs.ListCheck.{ownRows, listRows, noticeRows, nothingBefore, afterNotice, sofarAt, rowsAt, noticesTable, badList}
 use Rattle.schedule.specs.Rules.{outsidePeriod, onExcludedDay, barredWeekend, startsBefore, sameBand, overLimit}
+use Rattle.schedule.specs.Walkable.{HoursFit}
 use Rattle.schedule.specs.declared.rules.Sofar.{Sofar}
 
 -- a notice is accepted exactly when none of its rows is broken
@@ -74,7 +75,7 @@ module _ (w : Winter) (f : Figures) (so : Sofar) (n : Notice) where
 -- the sum of a notice that is not refused fits
 
 module _ (w : Winter) (f : Figures) (so : Sofar) (n : Notice) (ok : Sane f) (t : Passed w f so n) where
-  pub sum-fits : so .hours + hoursOf n ≤ 100
+  pub sum-fits : so .hours + hoursOf n ≤ mostHours
   unfolding overLimit
   sum-fits = omega (arith, ltb-false (f .hours) (so .hours + hoursOf n) (t .limit), ok .hours)
 
@@ -116,38 +117,38 @@ sofar-next : (l : List ℕ) (k : ℕ) → afterNotice (sofarAt l k) (noticeAt l 
 unfolding sofarAt
 sofar-next l k = rw (add-one k) refl
 
--- the loop, over plain variables
+-- the loop, over plain variables: before notice k
 
-pub record Held (w : Winter) (f : Figures) (l : List ℕ) (n : ℕ) (so : Sofar) (k : ℕ) : Type 0 where
-  pub small : so .hours ≤ 100
+pub record WalkedTo (w : Winter) (f : Figures) (l : List ℕ) (n : ℕ) (so : Sofar) (k : ℕ) : Type 0 where
+  pub small : so .hours ≤ mostHours
   pub same : so ≡ sofarAt l k
   pub walked : Walked (rowsAt w f l) n k
 
-pub held-start : (w : Winter) (f : Figures) (l : List ℕ) (n : ℕ) (so : Sofar) → so ≡ nothingBefore → Held w f l n so 0
+pub walk-start : (w : Winter) (f : Figures) (l : List ℕ) (n : ℕ) (so : Sofar) → so ≡ nothingBefore → WalkedTo w f l n so 0
 unfolding sofarAt
-held-start w f l n so e = record { small = rw e (omega arith); same = e; walked = walked-none }
+walk-start w f l n so e = record { small = rw e (omega arith); same = e; walked = walked-none }
 
-module _ {w : Winter} {f : Figures} {l : List ℕ} {n : ℕ} {so : Sofar} {k : ℕ} (h : Held w f l n so k) where
-  pub held-done : n ≤ k → accepted ≡ firstOf (rowsTo (rowsAt w f l) n)
-  held-done = walked-all (h .walked)
+module _ {w : Winter} {f : Figures} {l : List ℕ} {n : ℕ} {so : Sofar} {k : ℕ} (h : WalkedTo w f l n so k) where
+  pub walk-done : n ≤ k → accepted ≡ firstOf (rowsTo (rowsAt w f l) n)
+  walk-done = walked-all (h .walked)
 
   module _ {m : Notice} {a : Answer} (at : m ≡ noticeAt l k) (said : a ≡ firstOf (noticeRows w f so m k)) where
     answer-is : a ≡ firstOf (rowsAt w f l k)
     unfolding rowsAt
     answer-is = said ∙ rw (h .same, at)
 
-    pub held-stop : k < n → isRefusal a ≡ true → a ≡ firstOf (rowsTo (rowsAt w f l) n)
-    held-stop = walked-stop (h .walked) answer-is
+    pub walk-stop : k < n → isRefusal a ≡ true → a ≡ firstOf (rowsTo (rowsAt w f l) n)
+    walk-stop = walked-stop (h .walked) answer-is
 
     passed-here : isRefusal a ≡ false → Passed w f so m
     passed-here t = passed w f so m k (ap isRefusal (sym said) ∙ t)
 
-    pub held-fits : Sane f → isRefusal a ≡ false → (so .hours ≤ 100) × (hoursOf m ≤ 24)
-    held-fits ok t = (h .small, omega (arith, hours-fit f m ok (passed-here t .long)))
+    pub walk-fits : Sane f → isRefusal a ≡ false → HoursFit so m
+    walk-fits ok t = record { sofar = h .small; notice = hours-fit f m ok (passed-here t .long) }
 
-    pub held-next : {next : Sofar} → Sane f → k < n → isRefusal a ≡ false → next ≡ afterNotice so m → Held w f l n next (k + 1)
+    pub walk-next : {next : Sofar} → Sane f → k < n → isRefusal a ≡ false → next ≡ afterNotice so m → WalkedTo w f l n next (k + 1)
     unfolding afterNotice
-    held-next {next} ok e t q =
+    walk-next {next} ok e t q =
         record {
           small = rw q (sum-fits w f so m ok (passed-here t));
           same = q ∙ rw (h .same, at) (sofar-next l k);
@@ -155,11 +156,11 @@ module _ {w : Winter} {f : Figures} {l : List ℕ} {n : ℕ} {so : Sofar} {k : �
         }
 
 -- a list that is not bad has whole notices, and not too many
-pub record Whole (numbers : ℕ) : Type 0 where
+pub record WholeList (numbers : ℕ) : Type 0 where
   pub whole : numbers % noticeNumbers ≡ 0
   pub few : countIn numbers ≤ mostNotices
 
-pub list-fits : (n : ℕ) → badList n ≡ false → Whole n
+pub list-fits : (n : ℕ) → badList n ≡ false → WholeList n
 unfolding badList
 list-fits n e =
     let p = neither (not (eqb (n % noticeNumbers) 0)) (ltb longestList n) e in

@@ -1,3 +1,4 @@
 pub mod Rules
 pub mod ListCheck
 pub mod Verdicts
+pub mod Walkable

@@ -1,13 +1,11 @@
 -- The rules of a notice, each as document 01's table of refusals has it: true where the number is given.
 -- Assumes nothing.
-use Prim.Native.Nat.{ℕ, _+_}
-use mathlib.Core.Bool.{Bool, true, not, Bool·beq, _&&_, _||_}
-use mathlib.Core.Path.{_≡_}
+use Prim.Native.Nat.{_+_}
+use mathlib.Core.Bool.{Bool, not, Bool·beq, _&&_, _||_}
 use lib.Dec.{ltb, eqb}
 use Rattle.calendar.specs.Excluded.{excluded}
 use Rattle.calendar.specs.Weekdays.{weekend}
 use Rattle.calendar.specs.Days.{inPeriod}
-use Rattle.calendar.specs.declared.answers.Kind.{Kind}
 use Rattle.calendar.specs.declared.answers.Winter.{Winter}
 use Rattle.notices.specs.Notices.{hoursOf}
 use Rattle.notices.specs.declared.notices.Notice.{Notice}
@@ -38,9 +36,3 @@ sameBand f event n = eqb (event .day) (n .day) && Bool·beq (ltb (event .start) 
 -- "18: total hours pass the winter's limit with this notice"
 unfoldable pub overLimit : Figures → Sofar → Notice → Bool
 overLimit f so n = ltb (f .hours) (so .hours + hoursOf n)
-
--- what the private functions are told of a day: whether it is in the winter period, and if so whether it is excluded and a weekend day
-pub record OnDay (w : Winter) (d : ℕ) (k : Kind) : Type 0 where
-  pub period : k .period ≡ inPeriod w d
-  pub open-day : inPeriod w d ≡ true → k .excluded ≡ excluded w d
-  pub week : inPeriod w d ≡ true → k .weekend ≡ weekend w d

@@ -3,7 +3,8 @@
 use Prim.Native.Nat.{ℕ}
 use mathlib.Core.List.{[], _∷_}
 use Rattle.laws.specs.Answer.{Answer}
-use Rattle.schedule.specs.declared.verdicts.Rule.the-variants.{NoWinter, BadList, NoProfile, OutsidePeriod, ExcludedDay, Weekend, BadHours, BadLength, StartsBefore, SameBand, OverLimit}
+use Rattle.schedule.specs.declared.verdicts.Rule.the-variants.{NoWinter, BadList, NoProfile, OutsidePeriod, ExcludedDay, Weekend}
+use Rattle.schedule.specs.declared.verdicts.Rule.the-variants.{BadHours, BadLength, StartsBefore, SameBand, OverLimit}
 use Rattle.schedule.specs.declared.verdicts.Rule.{Rule}
 use Rattle.schedule.specs.declared.verdicts.Verdict.the-variants.{Accepted, Refused}
 use Rattle.schedule.specs.declared.verdicts.Verdict.{Verdict}

@@ -2,13 +2,13 @@
 ghost use mathlib.Core.Path.{_≡_};
 ghost use mathlib.Core.Bool.{false};
 ghost use Rattle.calendar.specs.Days.{wrongWinter};
-ghost use Prim.Native.Nat.{_≤_, _<_};
+ghost use Prim.Native.Nat.{_<_};
 ghost use lib.ListN.{length};
 ghost use Rattle.laws.specs.Rows.{rowsTo};
 ghost use Rattle.laws.specs.Table.{firstOf};
-ghost use Rattle.notices.specs.Notices.{mostNotices, countOf, noticeAt, hoursOf};
-ghost use Rattle.notices.specs.Sane.{Sane};
+ghost use Rattle.notices.specs.Notices.{countOf, noticeAt};
 ghost use Rattle.schedule.specs.Verdicts.{verdictPaper};
+ghost use Rattle.schedule.specs.Walkable.{Walkable, HoursFit};
 ghost use Rattle.schedule.specs.ListCheck.{ownRows, listRows, noticeRows, nothingBefore, afterNotice, rowsAt, badList, checkedIn, checkAnswer};
 use crate::rules::Sofar;
 use crate::rules::barred_weekend;
@@ -93,7 +93,7 @@ fn nothing_before() -> Sofar
 
 // What stands before the next notice.
 fn after_notice(so: Sofar, n: Notice) -> Sofar
-    requires { ⌜ (so .hours ≤ 100) × (hoursOf n ≤ 24) ⌝ }
+    requires { ⌜ HoursFit so n ⌝ }
     ensures { λ r. ⌜ r ≡ afterNotice so n ⌝ }
 {
     let hours = notices::hours_of(n);
@@ -117,7 +117,7 @@ fn notice_in(list: &[u32], k: usize) -> Notice
 
 // The first refusal among the notices of a list.
 fn check_notices(w: Winter, f: Figures, list: &[u32], count: usize) -> Verdict
-    requires { ⌜ (wrongWinter w ≡ false) × Sane f × (count ≤ mostNotices) × (count ≤ countOf (now list)) ⌝ }
+    requires { ⌜ Walkable w f (now list) count ⌝ }
     ensures { λ r. ⌜ verdictPaper r ≡ firstOf (rowsTo (rowsAt w f (now (list .entry))) count) ⌝ }
 {
     let mut so = nothing_before();

@@ -2,7 +2,8 @@
 ghost use mathlib.Core.Path.{_≡_};
 ghost use mathlib.Core.Bool.{true, false};
 ghost use Rattle.calendar.specs.Days.{wrongWinter, inPeriod};
-ghost use Rattle.schedule.specs.Rules.{OnDay, barredWeekend, startsBefore, sameBand, overLimit};
+ghost use Rattle.schedule.specs.Walkable.{KindOn};
+ghost use Rattle.schedule.specs.Rules.{barredWeekend, startsBefore, sameBand, overLimit};
 use calendar::DayKind;
 use calendar::Kind;
 use calendar::Winter;
@@ -18,7 +19,7 @@ pub struct Sofar {
 // What kind of day a notice is on; a day past the book is in no winter period.
 pub(crate) fn kind_on(w: Winter, n: Notice) -> Kind
     requires { ⌜ wrongWinter w ≡ false ⌝ }
-    ensures { λ r. ⌜ OnDay w (n .day) r ⌝ }
+    ensures { λ r. ⌜ KindOn w (n .day) r ⌝ }
 {
     match calendar::kind_of(w, n.day) {
         DayKind::Is(kind) => kind,

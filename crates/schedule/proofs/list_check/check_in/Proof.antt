@@ -39,7 +39,12 @@ check-notices-requires c κs =
     let right = whole .before .before in
     let fits = list-fits _ (found (whole .before .bad-list .ensures) (whole .if2 .left)) in
     let count = c .count-in .ensures in
-    (found (right .before .wrong-winter .ensures) (right .if1 .left), rw (c .before .figures .ensures) (sane _), omega arith, omega arith)
+    record {
+      winter = found (right .before .wrong-winter .ensures) (right .if1 .left);
+      figures = rw (c .before .figures .ensures) (sane _);
+      few = omega arith;
+      there = omega arith;
+    }
 
 returns-3 : tie.Need-returns-3
 unfolding checkedIn
@@ -48,7 +53,8 @@ returns-3 c =
     let whole = counted .before .before in
     let right = whole .before .before in
     row-goes _ _ (found (right .before .wrong-winter .ensures) (right .if1 .left))
-    (row-goes _ _ (found (whole .before .bad-list .ensures) (whole .if2 .left)) (rw (← counted .before .figures .ensures, ← counted .count-in .ensures) (c .check-notices .ensures)))
+    (row-goes _ _ (found (whole .before .bad-list .ensures) (whole .if2 .left))
+    (rw (← counted .before .figures .ensures, ← counted .count-in .ensures) (c .check-notices .ensures)))
 
 pub check-in-spec : {M : Type 1} → statement M
 check-in-spec =

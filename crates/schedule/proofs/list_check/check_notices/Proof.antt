@@ -1,24 +1,24 @@
 -- `check_notices` walks the notices.
--- The invariant, `Held`: what stands before notice k is what the list has before it, and no notice before it is refused.
+-- The invariant, `WalkedTo`: what stands before notice k is what the list has before it, and no notice before it is refused.
 -- Assumes nothing.
 use Prim.Native.Nat.{_-_}
 use borrow.Author.Needs.{needs}
 use Rattle.laws.proofs.Guards.{found}
-use Rattle.schedule.proofs.Walk.{Held, held-start, held-stop, held-fits, held-next, held-done}
+use Rattle.schedule.proofs.Walk.{WalkedTo, walk-start, walk-stop, walk-fits, walk-next, walk-done}
 use Rattle.schedule.proofs.list_check.check_notices.Statement.{statement}
 use Rattle.schedule.proofs.list_check.check_notices.Tie as tie
 
 abbrev Inv-loop : tie.InvT-loop
-Inv-loop winter f list count so₀ k₀ so k = Held winter f list count so k
+Inv-loop w f list count so₀ k₀ so k = WalkedTo w f list count so k
 
 abbrev μ-loop : tie.MeasureT-loop
-μ-loop winter f list count so₀ k₀ so k = count - k
+μ-loop w f list count so₀ k₀ so k = count - k
 
 nothing-before-requires : tie.Need-nothing-before-requires Inv-loop μ-loop
 nothing-before-requires c κs = search needs
 
 loop-holds : tie.Need-loop-holds Inv-loop μ-loop
-loop-holds c = held-start _ _ _ _ _ (c .nothing-before .ensures)
+loop-holds c = walk-start _ _ _ _ _ (c .nothing-before .ensures)
 
 notice-in-requires : tie.Need-notice-in-requires Inv-loop μ-loop
 notice-in-requires c κs = search needs
@@ -34,11 +34,22 @@ is-refused-requires c κs = search needs
 
 returns : tie.Need-returns Inv-loop μ-loop
 returns c =
-    held-stop (c .before .before .before .before .before .loop .inv) (c .before .before .before .notice-in .ensures) (c .before .before .notice-verdict .ensures) (c .before .before .before .before .loop-test .taken) (found (c .before .is-refused .ensures) (c .if1 .taken))
+    let asked = c .before in
+    let judged = asked .before in
+    let read = judged .before in
+    let turn = read .before in
+    walk-stop (turn .before .loop .inv) (read .notice-in .ensures) (judged .notice-verdict .ensures) (turn .loop-test .taken)
+    (found (asked .is-refused .ensures) (c .if1 .taken))
 
 after-notice-requires : tie.Need-after-notice-requires Inv-loop μ-loop
 after-notice-requires c κs =
-    held-fits (c .before .before .before .before .before .loop .inv) (c .before .before .before .notice-in .ensures) (c .before .before .notice-verdict .ensures) (c .before .before .before .before .before .before .before .before .pre .1) (found (c .before .is-refused .ensures) (c .if1 .left))
+    let asked = c .before in
+    let judged = asked .before in
+    let read = judged .before in
+    let loop = read .before .before in
+    let start = loop .before .before .before in
+    walk-fits (loop .loop .inv) (read .notice-in .ensures) (judged .notice-verdict .ensures) (start .pre .figures)
+    (found (asked .is-refused .ensures) (c .if1 .left))
 
 add-k : tie.Need-add-k Inv-loop μ-loop
 add-k c = search needs
@@ -48,10 +59,18 @@ loop-less c = search needs
 
 loop-again : tie.Need-loop-again Inv-loop μ-loop
 loop-again c =
-    held-next (c .before .before .before .before .before .before .loop .inv) (c .before .before .before .before .notice-in .ensures) (c .before .before .before .notice-verdict .ensures) (c .before .before .before .before .before .before .before .before .before .pre .1) (c .before .before .before .before .before .loop-test .taken) (found (c .before .before .is-refused .ensures) (c .before .if1 .left)) (c .after-notice .ensures)
+    let kept = c .before in
+    let asked = kept .before in
+    let judged = asked .before in
+    let read = judged .before in
+    let turn = read .before in
+    let loop = turn .before in
+    let start = loop .before .before .before in
+    walk-next (loop .loop .inv) (read .notice-in .ensures) (judged .notice-verdict .ensures) (start .pre .figures) (turn .loop-test .taken)
+    (found (asked .is-refused .ensures) (kept .if1 .left)) (c .after-notice .ensures)
 
 returns-2 : tie.Need-returns-2 Inv-loop μ-loop
-returns-2 c = held-done (c .before .loop .inv) (c .loop-test .left)
+returns-2 c = walk-done (c .before .loop .inv) (c .loop-test .left)
 
 pub check-notices-spec : {M : Type 1} → statement M
 check-notices-spec =

@@ -21,7 +21,8 @@ same-band-requires c κs = search needs
 returns-2 : tie.Need-returns-2
 unfolding listRows
 returns-2 c =
-    row-goes _ _ (found (c .before .before .before .starts-before .ensures) (c .before .before .if1 .left))
+    let order = c .before .before in
+    row-goes _ _ (found (order .before .starts-before .ensures) (order .if1 .left))
     (row-stops _ _ (found (c .before .same-band .ensures) (c .if2 .taken)))
 
 over-limit-requires : tie.Need-over-limit-requires
@@ -30,15 +31,19 @@ over-limit-requires c κs = search needs
 returns-3 : tie.Need-returns-3
 unfolding listRows
 returns-3 c =
-    row-goes _ _ (found (c .before .before .before .before .before .starts-before .ensures) (c .before .before .before .before .if1 .left))
-    (row-goes _ _ (found (c .before .before .before .same-band .ensures) (c .before .before .if2 .left))
+    let apart = c .before .before in
+    let order = apart .before .before in
+    row-goes _ _ (found (order .before .starts-before .ensures) (order .if1 .left))
+    (row-goes _ _ (found (apart .before .same-band .ensures) (apart .if2 .left))
     (row-stops _ _ (found (c .before .over-limit .ensures) (c .if3 .taken))))
 
 returns-4 : tie.Need-returns-4
 unfolding listRows
 returns-4 c =
-    row-goes _ _ (found (c .before .before .before .before .before .starts-before .ensures) (c .before .before .before .before .if1 .left))
-    (row-goes _ _ (found (c .before .before .before .same-band .ensures) (c .before .before .if2 .left))
+    let apart = c .before .before in
+    let order = apart .before .before in
+    row-goes _ _ (found (order .before .starts-before .ensures) (order .if1 .left))
+    (row-goes _ _ (found (apart .before .same-band .ensures) (apart .if2 .left))
     (row-goes _ _ (found (c .before .over-limit .ensures) (c .if3 .left)) rows-end))
 
 pub list-verdict-spec : {M : Type 1} → statement M

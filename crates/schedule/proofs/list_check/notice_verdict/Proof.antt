@@ -14,14 +14,17 @@ is-refused-requires c κs = search needs
 
 returns : tie.Need-returns
 returns c =
-    notice-stop _ _ _ _ _ (c .before .before .own-verdict .ensures) (found (c .before .is-refused .ensures) (c .if1 .taken))
+    let asked = c .before in
+    notice-stop _ _ _ _ _ (asked .before .own-verdict .ensures) (found (asked .is-refused .ensures) (c .if1 .taken))
 
 list-verdict-requires : tie.Need-list-verdict-requires
 list-verdict-requires c κs = search needs
 
 returns-2 : tie.Need-returns-2
 returns-2 c =
-    notice-go _ _ _ _ _ (c .before .before .before .own-verdict .ensures) (found (c .before .before .is-refused .ensures) (c .before .if1 .left)) (c .list-verdict .ensures)
+    let kept = c .before in
+    let asked = kept .before in
+    notice-go _ _ _ _ _ (asked .before .own-verdict .ensures) (found (asked .is-refused .ensures) (kept .if1 .left)) (c .list-verdict .ensures)
 
 pub notice-verdict-spec : {M : Type 1} → statement M
 notice-verdict-spec =

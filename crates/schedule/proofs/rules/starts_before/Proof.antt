@@ -18,12 +18,15 @@ same-or-earlier a b t h = ⊎-elim (λ (e : a ≡ b). rw (eq-eqb a b e)) (λ (l 
 returns : tie.Need-returns
 unfolding startsBefore
 returns c =
-    let a = c .before .before .before .args in
-    rw (le-ltb (a .n .day) (a .last .day) (omega arith), ne-eqb (a .n .day) (a .last .day) (λ (e : a .n .day ≡ a .last .day). omega arith))
+    let day = c .before .before .before .args .n .day in
+    let last-day = c .before .before .before .args .last .day in
+    rw (le-ltb day last-day (omega arith), ne-eqb day last-day (λ (e : day ≡ last-day). omega arith))
 
 returns-2 : tie.Need-returns-2
 unfolding startsBefore
-returns-2 c = same-or-earlier _ _ _ (c .before .before .before .before .if1 .left)
+returns-2 c =
+    let not-later = c .before .before .before .before in
+    same-or-earlier _ _ _ (not-later .if1 .left)
 
 pub starts-before-spec : {M : Type 1} → statement M
 starts-before-spec = tie.close (tie.spec returns returns-2)
