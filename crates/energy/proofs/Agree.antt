@@ -13,6 +13,7 @@ use Rattle.laws.proofs.Every.{Every, imply}
 use Rattle.notices.specs.declared.notices.Notice.{Notice}
 use Rattle.energy.specs.Asked.{Asked, askedBy, needed}
 use Rattle.energy.specs.Energy.{energyOf}
+use Rattle.energy.specs.ReferenceDays.{freeIn}
 use Rattle.energy.specs.Line.{lineOf, eventAnswer}
 use Rattle.energy.proofs.Scaled.{Times, energy-scaled}
 
@@ -30,7 +31,7 @@ module _ (book other : List ℕ) where
   unfolding lineOf
   line-agrees q a = rw (fault-agrees book other (needed q) a, energy-agrees q a)
 
-  pub event-agrees : (w : Winter) (masks : List ℕ) (n : Notice) → length book ≡ length other → Every Agrees (needed (askedBy w masks n))
+  pub event-agrees : (w : Winter) (masks : List ℕ) (n : Notice) → length book ≡ length other → Every Agrees (needed (askedBy w (freeIn masks) n))
       → eventAnswer w book masks n ≡ eventAnswer w other masks n
   unfolding eventAnswer
-  event-agrees w masks n e a = rw (e, line-agrees (askedBy w masks n) a)
+  event-agrees w masks n e a = rw (e, line-agrees (askedBy w (freeIn masks) n) a)

@@ -8,6 +8,7 @@ use mathlib.Core.Path.{_≡_, refl, sym, ap, _∙_}
 use native.Mathlib.Omega.{arith}
 use lib.ListN.{length, getD, length-map}
 use borrow.Author.Tests.{not-false}
+use Rattle.laws.specs.Bounds.{largestEnergy}
 use Rattle.book.proofs.FirstFault.{Right}
 use Rattle.book.proofs.PartLaws.{part-there, part-earlier, places-in}
 use Rattle.book.proofs.PlaceLaws.{at-hours}
@@ -27,7 +28,7 @@ use Rattle.energy.specs.Asked.{Asked, askedBy, warmUp, needed}
 use Rattle.energy.specs.Energy.{trimmedAt, energyOf}
 use Rattle.energy.specs.HoursOf.{Spans}
 use Rattle.energy.specs.Line.{settled, lineOf, eventAnswer}
-use Rattle.energy.specs.ReferenceDays.{referenceDays}
+use Rattle.energy.specs.ReferenceDays.{freeIn, referenceDays}
 use Rattle.energy.proofs.EnergyBound.{trimmed-bound, spared-bound}
 use Rattle.energy.proofs.HourLaws.{in-band, warm-below}
 use Rattle.energy.proofs.Nearest.{refs-serve, refs-few}
@@ -54,7 +55,7 @@ module _ (book : List ℕ) (q : Asked) (five : length (q .refs) ≡ 5) (all : Ev
       (q .warm ++ q .event)
       hours-most
 
-  readings-most : length (q .event) ≤ 4 → energyOf book q ≤ 1500000000
+  readings-most : length (q .event) ≤ 4 → energyOf book q ≤ largestEnergy
   unfolding energyOf
   readings-most b =
       spared-bound (length (q .event)) (length (q .warm)) _ _ _ _ b
@@ -64,7 +65,7 @@ module _ (book : List ℕ) (q : Asked) (five : length (q .refs) ≡ 5) (all : Ev
 module _ (w : Winter) (book masks : List ℕ) (n : Notice) where
   -- a call that is not refused: the day is in the book, the hours lie in a band, and the line is the answer
   taken : (vs : List ℕ) → eventAnswer w book masks n ≡ given vs
-      → (noPart w (length book) (n .day) ≡ false) × Spans (n .start) (n .end) × (lineOf book (askedBy w masks n) ≡ given vs)
+      → (noPart w (length book) (n .day) ≡ false) × Spans (n .start) (n .end) × (lineOf book (askedBy w (freeIn masks) n) ≡ given vs)
   unfolding eventAnswer
   taken vs e =
       let a = passed 0 _ _ vs e in
@@ -74,26 +75,26 @@ module _ (w : Winter) (book masks : List ℕ) (n : Notice) where
       let there = part-there w (length book) (n .day) (a .0) (b .0) (in-book w (n .day) (not-false _ (c .0))) in
       (there, in-band _ n refl (d .0), d .1)
 
-  pub needed-in : (vs : List ℕ) → eventAnswer w book masks n ≡ given vs → Every (λ (p : ℕ). p < length book) (needed (askedBy w masks n))
+  pub needed-in : (vs : List ℕ) → eventAnswer w book masks n ≡ given vs → Every (λ (p : ℕ). p < length book) (needed (askedBy w (freeIn masks) n))
   unfolding needed askedBy
   needed-in vs e =
       let t = taken vs e in
       let s = t .1 in
-      let warm = warm-below (n .start) (omega (arith, s .in-day, s .some-hour)) in
+      let warm = warm-below w (n .day) (n .start) (omega (arith, s .in-day, s .some-hour)) in
       let event = hours-below (n .start) (n .end - n .start) (omega (arith, s .in-day, s .some-hour)) in
       let refs =
-      imply _ _ (λ d x. part-earlier w (length book) (n .day) d (t .0) (omega (arith, x .0))) (referenceDays w masks (n .day)) (refs-serve w masks (n .day)) in
-      places-in w (length book) _ _ (joined InDay (warmUp (n .start)) (hoursFrom (n .start) (n .end - n .start)) warm event) (t .0, refs)
+      imply _ _ (λ d x. part-earlier w (length book) (n .day) d (t .0) (omega (arith, x .0))) (referenceDays w (freeIn masks) (n .day)) (refs-serve w (freeIn masks) (n .day)) in
+      places-in w (length book) _ _ (joined InDay (warmUp w (n .day) (n .start)) (hoursFrom (n .start) (n .end - n .start)) warm event) (t .0, refs)
 
-  pub energy-most : (e : ℕ) → eventAnswer w book masks n ≡ settled e → e ≤ 1500000000
+  pub energy-most : (e : ℕ) → eventAnswer w book masks n ≡ settled e → e ≤ largestEnergy
   unfolding askedBy
   energy-most e q =
       let t = taken (0 ∷ 0 ∷ e ∷ []) q in
-      let l = settled-only book (askedBy w masks n) (ap (λ (a : Answer). getD (a .values) 0 0) (t .2)) in
-      let same = sym (settled-where book (askedBy w masks n) (l .0) (l .1)) ∙ t .2 in
+      let l = settled-only book (askedBy w (freeIn masks) n) (ap (λ (a : Answer). getD (a .values) 0 0) (t .2)) in
+      let same = sym (settled-where book (askedBy w (freeIn masks) n) (l .0) (l .1)) ∙ t .2 in
       omega (
         arith,
         ap (λ (a : Answer). getD (a .values) 2 0) same,
-        readings-most book (askedBy w masks n) (omega (arith, l .0, refs-few w masks (n .day))) (l .1)
+        readings-most book (askedBy w (freeIn masks) n) (omega (arith, l .0, refs-few w (freeIn masks) (n .day))) (l .1)
             (omega (arith, hours-long (n .start) (n .end - n .start), t .1 .few)),
       )

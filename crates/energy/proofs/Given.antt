@@ -7,6 +7,7 @@ use mathlib.Core.List.{List, [], _∷_}
 use mathlib.Core.Path.{_≡_, refl, sym, _∙_}
 use native.Mathlib.Omega.{arith}
 use lib.ListN.{length, getD}
+use Rattle.laws.specs.Bounds.{largestEnergy}
 use Rattle.book.proofs.LengthLaws.{length-right}
 use Rattle.book.specs.Length.{bookLength, wrongLength}
 use Rattle.book.specs.Readings.{firstFault}
@@ -27,6 +28,7 @@ use Rattle.schedule.proofs.Lawful.{Sound}
 use Rattle.energy.specs.Asked.{Asked, askedBy, needed}
 use Rattle.energy.specs.Energy.{energyOf}
 use Rattle.energy.specs.Line.{settled, linePaper, byFault, lineOf, eventAnswer}
+use Rattle.energy.specs.ReferenceDays.{freeIn}
 use Rattle.energy.specs.declared.lines.Line.the-variants as LineCase
 use Rattle.energy.specs.declared.lines.Line.{Line}
 use Rattle.energy.proofs.EventLaws.{energy-most}
@@ -48,13 +50,13 @@ event-paper : (w : Winter) (book masks : List ℕ) (n : Notice) → Paper (event
 unfolding eventAnswer lineOf
 event-paper w book masks n =
     refuse-paper _ LineCase.NoWinter _ (refuse-paper _ LineCase.BadBook _ (refuse-paper _ LineCase.OutsidePeriod _ (refuse-paper _ LineCase.BadHours _
-    (refuse-paper _ LineCase.FewDays _ (fault-paper (firstFault book (needed (askedBy w masks n))) (energyOf book (askedBy w masks n)))))))
+    (refuse-paper _ LineCase.FewDays _ (fault-paper (firstFault book (needed (askedBy w (freeIn masks) n))) (energyOf book (askedBy w (freeIn masks) n)))))))
 
 -- the energy of an answer: the third value, 0 where there is none
 abbrev pub energyOn : Answer → ℕ
 energyOn a = getD (a .values) 2 0
 
-line-most : (r : Line) → ((e : ℕ) → linePaper r ≡ settled e → e ≤ 1500000000) → energyOn (linePaper r) ≤ 1500000000
+line-most : (r : Line) → ((e : ℕ) → linePaper r ≡ settled e → e ≤ largestEnergy) → energyOn (linePaper r) ≤ largestEnergy
 line-most (LineCase.Settled energy) m = m energy refl
 line-most LineCase.FewDays m = omega arith
 line-most (LineCase.Missing place) m = omega arith
@@ -64,7 +66,7 @@ line-most LineCase.BadBook m = omega arith
 line-most LineCase.OutsidePeriod m = omega arith
 line-most LineCase.BadHours m = omega arith
 
-pub answer-most : (w : Winter) (book masks : List ℕ) (n : Notice) → energyOn (eventAnswer w book masks n) ≤ 1500000000
+pub answer-most : (w : Winter) (book masks : List ℕ) (n : Notice) → energyOn (eventAnswer w book masks n) ≤ largestEnergy
 answer-most w book masks n =
     let p = event-paper w book masks n in
     rw (← p .paper) (line-most (p .line) (λ e q. energy-most w book masks n e (sym (p .paper) ∙ q)))
@@ -91,6 +93,6 @@ event-given y book masks n b s =
     let w = winterOf y in
     let day : not (inPeriod w (n .day)) ≡ false = rw (period-day y (n .day) .1 (s .period)) in
     let long : wrongLength (w .days) (length book) ≡ false = length-right (w .days) (length book) (omega (arith, facts-days y)) in
-    let e : lineOf book (askedBy w masks n) ≡ eventAnswer w book masks n =
+    let e : lineOf book (askedBy w (freeIn masks) n) ≡ eventAnswer w book masks n =
     kept _ (facts-right y) (kept _ long (kept _ day (kept _ (hours-iff (figuresOf Credit) n .1 (s .some-hour, s .band)) refl))) in
-    rw (← e) (line-three book (askedBy w masks n))
+    rw (← e) (line-three book (askedBy w (freeIn masks) n))

@@ -15,6 +15,7 @@ use Rattle.book.specs.Places.{InDay, hoursFrom}
 use Rattle.book.specs.Readings.{firstFault}
 use Rattle.book.specs.Values.{AtPlace}
 use Rattle.book.specs.declared.values.Fault.{Fault}
+use Rattle.calendar.specs.declared.answers.Winter.{Winter}
 use Rattle.laws.proofs.Every.{Every}
 use Rattle.notices.proofs.HourLaws.{Inside, hours-iff}
 use Rattle.notices.proofs.ProfileLaws.{credit-figures}
@@ -54,29 +55,29 @@ module _ (part : List ℕ) (hours : Hours) (inside : HoursIn hours) {f : Fault} 
   event-told e = rw e (fault-among part InDay (eventRun hours) (event-in hours inside))
 
 -- document 01's warm-up hours are hours of the day
-pub warm-below : (s : ℕ) → s ≤ 20 → Every InDay (warmUp s)
+pub warm-below : (w : Winter) (day s : ℕ) → s ≤ 20 → Every InDay (warmUp w day s)
 unfolding warmUp
-warm-below s b = by (ltb s 16)
+warm-below w day s b = by (ltb s (credit .evening .start))
   where
     by : (m : Bool) → Every InDay (cond m (hoursFrom (s - 5) 3) (hoursFrom (s - 4) 2))
     by true = hours-below (s - 5) 3 (omega arith)
     by false = hours-below (s - 4) 2 (omega arith)
 
-module _ (s e : ℕ) (p : Spans s e) where
-  pub morning-hours : s < credit .evening .start → HoursFor s e (record { warm = s - 5; pause = s - 2; start = s; end = e })
+module _ (w : Winter) (day s e : ℕ) (p : Spans s e) where
+  pub morning-hours : s < credit .evening .start → HoursFor w day s e (record { warm = s - 5; pause = s - 2; start = s; end = e })
   unfolding warmUp
   morning-hours b =
       record {
-        warm-are = rw (lt-ltb s 16 b) (run-from (s - 5) (s - 2) 3 (omega arith));
+        warm-are = rw (lt-ltb s (credit .evening .start) b) (run-from (s - 5) (s - 2) 3 (omega arith));
         event-are = run-from s e (e - s) refl;
         inside = record { two-warm = omega arith; warm-in = omega arith; in-order = omega arith; few-event = omega arith; event-in = omega arith };
       }
 
-  pub evening-hours : credit .evening .start ≤ s → HoursFor s e (record { warm = s - 4; pause = s - 2; start = s; end = e })
+  pub evening-hours : credit .evening .start ≤ s → HoursFor w day s e (record { warm = s - 4; pause = s - 2; start = s; end = e })
   unfolding warmUp
   evening-hours b =
       record {
-        warm-are = rw (le-ltb s 16 b) (run-from (s - 4) (s - 2) 2 (omega arith));
+        warm-are = rw (le-ltb s (credit .evening .start) b) (run-from (s - 4) (s - 2) 2 (omega arith));
         event-are = run-from s e (e - s) refl;
         inside = record { two-warm = omega arith; warm-in = omega arith; in-order = omega arith; few-event = omega arith; event-in = omega arith };
       }

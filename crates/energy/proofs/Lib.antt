@@ -9,8 +9,10 @@ pub mod LineLaws
 pub mod Nearest
 pub mod OneOutcome
 pub mod PartLaws
+pub mod PastEvents
 pub mod ReferenceLaws
 pub mod Scaled
+pub mod SearchLaws
 pub mod Signs
 pub mod SparedLaws
 pub mod TrimmedLaws

@@ -5,6 +5,7 @@ use mathlib.Core.List.{List}
 use mathlib.Core.Path.{_≡_}
 use Rattle.book.specs.Length.{dayHours}
 use Rattle.book.specs.Places.{hoursFrom, run}
+use Rattle.calendar.specs.declared.answers.Winter.{Winter}
 use Rattle.energy.specs.Asked.{Asked, warmUp}
 use Rattle.energy.specs.declared.hours.Hours.{Hours}
 
@@ -33,7 +34,8 @@ pub record HoursIn (hours : Hours) : Type 0 where
   pub few-event : hours .end ≤ hours .start + 4
   pub event-in : hours .end ≤ dayHours
 
-pub record HoursFor (start end : ℕ) (r : Hours) : Type 0 where
-  pub warm-are : warmRun r ≡ warmUp start
+-- the hours of the event from start to end - 1 on a day
+pub record HoursFor (w : Winter) (day start end : ℕ) (r : Hours) : Type 0 where
+  pub warm-are : warmRun r ≡ warmUp w day start
   pub event-are : eventRun r ≡ hoursFrom start (end - start)
   pub inside : HoursIn r

@@ -18,6 +18,7 @@ use Rattle.notices.specs.declared.notices.Notice.{Notice}
 use Rattle.notices.specs.declared.profiles.Profile.the-variants.{Credit}
 use Rattle.energy.specs.Asked.{Asked, askedBy, needed}
 use Rattle.energy.specs.Energy.{energyOf}
+use Rattle.energy.specs.ReferenceDays.{freeIn}
 use Rattle.energy.specs.declared.lines.Line.{Line}
 use Rattle.energy.specs.declared.lines.Line.the-variants as LineCase
 
@@ -56,4 +57,4 @@ eventAnswer w book masks n =
     (refuse (wrongLength (w .days) (length book)) (refusal 2)
     (refuse (not (inPeriod w (n .day))) (refusal 10)
     (refuse (badHours (figuresOf Credit) n) (refusal 13)
-    (lineOf book (askedBy w masks n)))))
+    (lineOf book (askedBy w (freeIn masks) n)))))

@@ -9,9 +9,13 @@ use Rattle.calendar.specs.Excluded.{excluded}
 use Rattle.calendar.specs.Weekdays.{weekend}
 use Rattle.calendar.specs.declared.answers.Winter.{Winter}
 
--- a day "of its kind (weekday or weekend)", the event day's, that carries "no event at any hour" and is "not excluded"
-unfoldable pub serves : Winter → List ℕ → ℕ → ℕ → Bool
-serves w masks day d = Bool·beq (weekend w d) (weekend w day) && eqb (getD masks d 0) 0 && not (excluded w d)
+-- which days carry "no event at any hour", by the masks of all days; the masks enter the rules here and nowhere else
+unfoldable pub freeIn : List ℕ → ℕ → Bool
+freeIn masks d = eqb (getD masks d 0) 0
+
+-- a day "of its kind (weekday or weekend)", the event day's, that is free of events and "not excluded"
+unfoldable pub serves : Winter → (ℕ → Bool) → ℕ → ℕ → Bool
+serves w free day d = Bool·beq (weekend w d) (weekend w day) && free d && not (excluded w d)
 
 -- a day before other days, where it is wanted
 abbrev pub withDay : Bool → ℕ → List ℕ → List ℕ
@@ -23,5 +27,5 @@ before ok zero = []
 before ok (suc d) = withDay (ok d) d (before ok d)
 
 -- "the five nearest days before the event day"; fewer where there are not five
-unfoldable pub referenceDays : Winter → List ℕ → ℕ → List ℕ
-referenceDays w masks day = take 5 (before (serves w masks day) day)
+unfoldable pub referenceDays : Winter → (ℕ → Bool) → ℕ → List ℕ
+referenceDays w free day = take 5 (before (serves w free day) day)

@@ -5,8 +5,7 @@ use Prim.Native.Nat.{ℕ, zero, suc, _<_}
 use mathlib.Core.Bool.{Bool, false, not, cond, Bool·beq, _&&_}
 use mathlib.Core.List.{List}
 use mathlib.Core.Path.{_≡_}
-use lib.Dec.{eqb}
-use lib.ListN.{length, getD, take}
+use lib.ListN.{length, take}
 use Rattle.calendar.specs.Days.{wrongWinter, inPeriod}
 use Rattle.calendar.specs.Excluded.{excluded}
 use Rattle.calendar.specs.Weekdays.{weekend}
@@ -21,9 +20,9 @@ pub record Finds (ds : List ℕ) (r : Refs) : Type 0 where
   pub long : length (r .days) ≡ 5
 
 -- where a search backwards from day d goes on: past the days right before it that carry an event
-unfoldable pub pastEvents : List ℕ → ℕ → ℕ
-pastEvents masks zero = 0
-pastEvents masks (suc d) = cond (eqb (getD masks d 0) 0) (suc d) (pastEvents masks d)
+unfoldable pub pastEvents : (ℕ → Bool) → ℕ → ℕ
+pastEvents free zero = 0
+pastEvents free (suc d) = cond (free d) (suc d) (pastEvents free d)
 
 -- whether a day that carries no event serves an event on a weekend day or on a weekday
 unfoldable pub freeServes : Winter → Bool → ℕ → Bool

@@ -9,6 +9,7 @@ ghost use Rattle.energy.specs.Asked.{askedBy};
 ghost use Rattle.energy.specs.Search.{OnDay};
 ghost use Rattle.energy.specs.HoursOf.{Spans, HoursIn, askedIn};
 ghost use Rattle.energy.specs.Line.{linePaper, byFault, lineOf, eventAnswer};
+ghost use Rattle.energy.specs.ReferenceDays.{freeIn};
 ghost use Rattle.energy.specs.Parts.{Days, SixDays, partsEnergy, partsLine};
 use crate::hours::Hours;
 use crate::hours::hours_of;
@@ -115,7 +116,7 @@ fn line_of_days(w: Winter, book: &[u32], day: u32, refs: [u32; 5], hours: Hours)
 // The line of an event whose day is in the book and whose hours lie in a band: 20 comes before 21 and 22.
 fn line_in(w: Winter, kind: Kind, book: &[u32], masks: &[u32; 152], n: Notice) -> Line
     requires { ⌜ (noPart w (length (now book)) (n .day) ≡ false) × (kind .weekend ≡ weekend w (n .day)) × Spans (n .start) (n .end) ⌝ }
-    ensures { λ r. ⌜ linePaper r ≡ lineOf (now (book .entry)) (askedBy w (now (masks .entry)) n) ⌝ }
+    ensures { λ r. ⌜ linePaper r ≡ lineOf (now (book .entry)) (askedBy w (freeIn (now (masks .entry))) n) ⌝ }
 {
     let found = nearest(w, kind, masks, n.day);
     let count = found.count;
@@ -123,7 +124,7 @@ fn line_in(w: Winter, kind: Kind, book: &[u32], masks: &[u32; 152], n: Notice) -
     if count < 5 {
         return Line::FewDays;
     }
-    let hours = hours_of(n.start, n.end);
+    let hours = hours_of(w, n.day, n.start, n.end);
     line_of_days(w, book, n.day, refs, hours)
 }
 

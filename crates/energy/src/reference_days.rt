@@ -2,7 +2,7 @@
 ghost use mathlib.Core.Path.{_≡_};
 ghost use Prim.Native.Nat.{_<_};
 ghost use Rattle.calendar.specs.Weekdays.{weekend};
-ghost use Rattle.energy.specs.ReferenceDays.{referenceDays};
+ghost use Rattle.energy.specs.ReferenceDays.{freeIn, referenceDays};
 ghost use Rattle.energy.specs.Search.{Finds, pastEvents, freeServes, BookDay};
 use calendar::DayKind;
 use calendar::Kind;
@@ -29,7 +29,7 @@ fn free_day_serves(w: Winter, event: Kind, d: u32) -> bool
 // Past the days right before a day that carry an event. They serve no event, and before a late one there are many.
 fn past_events(masks: &[u32; 152], day: u32) -> u32
     requires { ⌜ day < 152 ⌝ }
-    ensures { λ r. ⌜ r ≡ pastEvents (now (masks .entry)) day ⌝ }
+    ensures { λ r. ⌜ r ≡ pastEvents (freeIn (now (masks .entry))) day ⌝ }
 {
     let mut d = day;
     while 0 < d {
@@ -44,7 +44,7 @@ fn past_events(masks: &[u32; 152], day: u32) -> u32
 // The five nearest days before the event day that serve, or as many as there are. It stops at the fifth.
 pub(crate) fn nearest(w: Winter, event: Kind, masks: &[u32; 152], day: u32) -> Refs
     requires { ⌜ BookDay w day × (event .weekend ≡ weekend w day) ⌝ }
-    ensures { λ r. ⌜ Finds (referenceDays w (now (masks .entry)) day) r ⌝ }
+    ensures { λ r. ⌜ Finds (referenceDays w (freeIn (now (masks .entry))) day) r ⌝ }
 {
     let mut days = [0u32; 5];
     let mut count: usize = 0;

@@ -16,7 +16,7 @@ use Rattle.calendar.specs.WinterOf.{winterOf}
 use Rattle.energy.specs.Asked.{warmUp, askedBy, needed}
 use Rattle.energy.specs.Energy.{trimmedAt, energyOf}
 use Rattle.energy.specs.Line.{lineOf, eventAnswer}
-use Rattle.energy.specs.ReferenceDays.{serves, before, referenceDays}
+use Rattle.energy.specs.ReferenceDays.{freeIn, serves, before, referenceDays}
 use Rattle.energy.specs.Spared.{trialOf, aboveLimit, sparedOf}
 use Rattle.energy.specs.Trimmed.{sumOf, smallestOf, largestOf, trimmedOf}
 use Rattle.event_hours.specs.Days.{marksNone, withHours, masksTo, masksOf}
@@ -36,7 +36,7 @@ use Rattle.credit.specs.Refusals.{badBook, shortOutput, callRows, settlementTab
 use Rattle.credit.specs.Settlement.{settledBy, writtenBy, settlement, written}
 use Rattle.money.specs.Worth.{roundedWorth}
 use Rattle.notices.specs.Hours.{outside, badHours, badLength}
-use Rattle.notices.specs.Notices.{noticeAt, hoursOf, hoursTo}
+use Rattle.notices.specs.Notices.{noticeAt, hoursOf}
 use Rattle.notices.specs.Profiles.{figuresOf, named}
 use Rattle.numerals.specs.Decimal.{isDigit, digitsIn, decimal}
 use Rattle.numerals.specs.Fields.{endFrom, digitsFrom, fieldFrom, fieldAt, wordFrom, wordAt, keyedAt}
@@ -55,5 +55,14 @@ use Rattle.figures.specs.ScheduleFigures.{mornings, hundredHours, schedu
 use Rattle.figures.specs.TextFigures.{bytesIn, sampleInput, sampleOutput, twice, textFigures}
 
 pub figures-hold : map (λ (f : Figure). f .paper) figures ≡ map (λ (f : Figure). f .computed) figures
-unfolding calendarFigures alsoExcluded alsoFrom easterSunday refuse noEasterYear easterT easterInBook among goodFriday easterMonday excluded leap days winterOf wrongWinter noDay scheduleFigures mornings hundredHours checkAnswer checkTable badList rowsAt noticeRows ownRows listRows firstOf sofarAt afterNotice noticeAt hoursOf hoursTo named figuresOf outsidePeriod onExcludedDay barredWeekend outside badHours badLength startsBefore sameBand overLimit noWinter inPeriod firstWeekday weekday weekend energyFigures sampleDay sampleBook sampleList eventAnswer lineOf askedBy warmUp hoursFrom needed placesOn firstFault faultOf energyOf sumOver trimmedAt trimmedOf sumOf smallestOf largestOf sparedOf aboveLimit trialOf referenceDays before serves masksOf masksTo withHours marksNone hoursMask moneyFigures settlement settledBy written writtenBy refusalOf settlementTable callRows badBook badPrice shortOutput rowsTo lineAt centsAt sumTo eventAt roundedWorth textFigures bytesIn sampleInput sampleOutput twice statementOf formBytes valuesBytes settledBytes settlementBytes formOf topOf restOf noticesSaid readsFrom readsSaid keyedAt fieldAt fieldFrom digitsFrom endFrom isDigit wordAt wordFrom rowAt linesEnd linesSaid eventLineAt headAt readLineAt flatten misplacedIn misplacedBy bookDays bookIn statementLines refusedLines noticeLine bytesOfLines lineBytes fieldBytes decimal digitsIn
+unfolding calendarFigures alsoExcluded alsoFrom easterSunday refuse noEasterYear easterT easterInBook among goodFriday easterMonday excluded leap days winterOf
+    wrongWinter noDay scheduleFigures mornings hundredHours checkAnswer checkTable badList rowsAt noticeRows ownRows listRows firstOf sofarAt afterNotice
+    noticeAt hoursOf named figuresOf outsidePeriod onExcludedDay barredWeekend outside badHours badLength startsBefore sameBand overLimit noWinter
+    inPeriod firstWeekday weekday weekend energyFigures sampleDay sampleBook sampleList eventAnswer lineOf askedBy warmUp hoursFrom needed placesOn
+    firstFault faultOf energyOf sumOver trimmedAt trimmedOf sumOf smallestOf largestOf sparedOf aboveLimit trialOf referenceDays before freeIn serves
+    masksOf masksTo withHours marksNone hoursMask moneyFigures settlement settledBy written writtenBy refusalOf settlementTable callRows badBook badPrice
+    shortOutput rowsTo lineAt centsAt sumTo eventAt roundedWorth textFigures bytesIn sampleInput sampleOutput twice statementOf formBytes valuesBytes
+    settledBytes settlementBytes formOf topOf restOf noticesSaid readsFrom readsSaid keyedAt fieldAt fieldFrom digitsFrom endFrom isDigit wordAt wordFrom
+    rowAt linesEnd linesSaid eventLineAt headAt readLineAt flatten misplacedIn misplacedBy bookDays bookIn statementLines refusedLines noticeLine
+    bytesOfLines lineBytes fieldBytes decimal digitsIn
 figures-hold = refl

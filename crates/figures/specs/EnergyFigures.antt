@@ -5,7 +5,7 @@ use mathlib.Core.List.{List, [], _∷_, _++_}
 use lib.ListN.{replicate}
 use Rattle.book.specs.Values.{missingMark}
 use Rattle.calendar.specs.WinterOf.{winterOf}
-use Rattle.energy.specs.ReferenceDays.{referenceDays}
+use Rattle.energy.specs.ReferenceDays.{freeIn, referenceDays}
 use Rattle.energy.specs.Spared.{sparedOf}
 use Rattle.event_hours.specs.Days.{masksOf}
 use Rattle.laws.specs.Answer.{Answer, given}
@@ -13,7 +13,7 @@ use Rattle.figures.specs.Figure.{Figure, figure}
 
 -- the reference days of an event on a day, with the events of a list
 abbrev pub references : List ℕ → ℕ → Answer
-references list day = given (referenceDays (winterOf 2026) (masksOf list) day)
+references list day = given (referenceDays (winterOf 2026) (freeIn (masksOf list)) day)
 
 -- H = W = 3, R = 126,000, B = 9,000, A = 12,000, and C
 abbrev pub sparedWith : ℕ → Answer

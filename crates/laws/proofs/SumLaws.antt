@@ -1,8 +1,9 @@
--- Laws of sums by index: none, one more, numbers that are the same, a bound, and a run between two sums.
+-- Laws of sums by index: none, one more, a bound, that they grow, numbers that are the same, and a run between two sums.
 -- Assumes nothing.
 use Prim.Native.Nat.{ℕ, zero, suc, _+_, _*_, _≤_, _<_}
+use mathlib.Core.Logic.{⊎-elim}
 use mathlib.Core.Path.{_≡_, refl, sym}
-use native.Mathlib.Nat.{add-zero, add-suc, zero-add, suc-mul}
+use native.Mathlib.Nat.{add-zero, add-suc, zero-add, suc-mul, eq-or-lt-of-le}
 use native.Mathlib.Omega.{arith}
 use Rattle.laws.specs.Sums.{sumTo, runOf}
 
@@ -19,6 +20,13 @@ module _ (f : ℕ → ℕ) where
   unfolding sumTo
   sum-bound m h zero = omega arith
   sum-bound m h (suc n) = rw (suc-mul n m) (omega (arith, sum-bound m h n, h n))
+
+  -- sums only grow
+  pub sum-grows : (j i : ℕ) → i ≤ j → sumTo f i ≤ sumTo f j
+  unfolding sumTo
+  sum-grows zero i h = let e : i ≡ 0 = omega arith in rw e (omega arith)
+  sum-grows (suc j) i h =
+      ⊎-elim (λ (e : i ≡ suc j). rw e (omega arith)) (λ (e : i < suc j). omega (arith, sum-grows j i (omega arith))) (eq-or-lt-of-le h)
 
 -- what is the same at each index has the same sum
 pub sum-same : (f g : ℕ → ℕ) (n : ℕ) → ((k : ℕ) → k < n → f k ≡ g k) → sumTo f n ≡ sumTo g n

@@ -1,16 +1,17 @@
--- The numbers of a notice of a list, and none past the last; and laws of the hours of the first notices together: none of no notice, those of one notice
--- more, and that they only grow.
+-- The numbers of a notice of a list, and none past the last; and laws of the hours of the first notices together: none of no notice, those of
+-- one notice more, and that they only grow.
 -- Assumes nothing.
-use Prim.Native.Nat.{ℕ, zero, suc, _+_, _*_, _≤_, _<_}
+use Prim.Native.Nat.{ℕ, suc, _+_, _*_, _≤_, _<_}
 use mathlib.Core.List.{List}
-use mathlib.Core.Logic.{⊎-elim}
-use mathlib.Core.Path.{_≡_, refl}
-use native.Mathlib.Nat.{eq-or-lt-of-le}
-use native.Mathlib.Omega.{arith}
+use mathlib.Core.Path.{_≡_}
 use borrow.Author.Tests.{lt-ltb, le-ltb}
+use Rattle.laws.proofs.SumLaws.{sum-none, sum-next, sum-grows}
 use Rattle.notices.specs.Notices.{noticeNumbers, countOf, noNotice, noticeFrom, noticeAt, hoursOf, hoursTo}
 
 module _ (l : List ℕ) where
+  abbrev hoursAt : ℕ → ℕ
+  hoursAt k = hoursOf (noticeAt l k)
+
   pub notice-read : (k : ℕ) → k < countOf l → noticeFrom l (k * noticeNumbers) ≡ noticeAt l k
   unfolding noticeAt
   notice-read k h = rw (lt-ltb k (countOf l) h)
@@ -20,16 +21,11 @@ module _ (l : List ℕ) where
   notice-past k h = rw (le-ltb k (countOf l) h)
 
   pub hours-none : hoursTo l 0 ≡ 0
-  unfolding hoursTo
-  hours-none = refl
+  hours-none = sum-none hoursAt
 
   pub hours-next : (k : ℕ) → hoursTo l (suc k) ≡ hoursTo l k + hoursOf (noticeAt l k)
-  unfolding hoursTo
-  hours-next k = refl
+  hours-next k = sum-next hoursAt k
 
   -- hours only grow
   pub hours-grow : (j i : ℕ) → i ≤ j → hoursTo l i ≤ hoursTo l j
-  unfolding hoursTo
-  hours-grow zero i h = let e : i ≡ 0 = omega arith in rw e (omega arith)
-  hours-grow (suc j) i h =
-      ⊎-elim (λ (e : i ≡ suc j). rw e (omega arith)) (λ (e : i < suc j). omega (arith, hours-grow j i (omega arith))) (eq-or-lt-of-le h)
+  hours-grow j i h = sum-grows hoursAt j i h

@@ -1,10 +1,11 @@
 -- The notices of a list.
 -- Assumes nothing.
-use Prim.Native.Nat.{ℕ, zero, suc, _+_, _-_, _*_, _/_}
+use Prim.Native.Nat.{ℕ, _+_, _-_, _*_, _/_}
 use mathlib.Core.Bool.{cond}
 use mathlib.Core.List.{List}
 use lib.Dec.{ltb}
 use lib.ListN.{length, getD}
+use Rattle.laws.specs.Sums.{sumTo}
 use Rattle.notices.specs.declared.notices.Notice.{Notice}
 
 -- "A notice is three numbers: day, first hour s, end e"; "A list has 0 to 100 notices."
@@ -41,6 +42,5 @@ unfoldable pub hoursOf : Notice → ℕ
 hoursOf n = n .end - n .start
 
 -- the hours of the first k notices together
-unfoldable pub hoursTo : List ℕ → ℕ → ℕ
-hoursTo l zero = 0
-hoursTo l (suc k) = hoursTo l k + hoursOf (noticeAt l k)
+abbrev pub hoursTo : List ℕ → ℕ → ℕ
+hoursTo l k = sumTo (λ (i : ℕ). hoursOf (noticeAt l i)) k

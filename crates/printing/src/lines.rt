@@ -3,6 +3,7 @@ ghost use mathlib.Core.Path.{_≡_};
 ghost use Prim.Native.Nat.{_+_, _*_, _≤_};
 ghost use lib.ListN.{length};
 ghost use Rattle.numerals.specs.Lines.{lineBytes, bytesOfLines};
+ghost use Rattle.credit.specs.Lines.{lineNumbers};
 ghost use Rattle.numerals.specs.Put.{Put};
 ghost use Rattle.printing.specs.Room.{lineRoom};
 ghost use Rattle.printing.specs.Settled.{settledIn, lineFor};
@@ -19,10 +20,10 @@ pub struct Settled {
 
 // The four numbers of the notice at index k.
 fn settled_at(lines: &[u64], k: usize) -> Settled
-    requires { ⌜ 4 * k + 4 ≤ length (now lines) ⌝ }
+    requires { ⌜ lineNumbers * k + lineNumbers ≤ length (now lines) ⌝ }
     ensures { λ r. ⌜ r ≡ settledIn (now (lines .entry)) k ⌝ }
 {
-    let at = 4 * k;
+    let at = credit::LINE_NUMBERS * k;
     let code = lines[at];
     let place = lines[at + 1];
     let energy = lines[at + 2];
@@ -55,7 +56,7 @@ fn put_line(out: &mut [u8], at: usize, notice: Notice, settled: Settled) -> usiz
 
 // Puts the lines of the first n notices.
 pub(crate) fn put_lines(out: &mut [u8], at: usize, list: &[u32], lines: &[u64], n: usize) -> usize
-    requires { ⌜ (4 * n ≤ length (now lines)) × (at + lineRoom * n ≤ length (now out)) ⌝ }
+    requires { ⌜ (lineNumbers * n ≤ length (now lines)) × (at + lineRoom * n ≤ length (now out)) ⌝ }
     ensures { λ r. ⌜ Put (now (out .entry)) at (bytesOfLines (noticeLines (now (list .entry)) (now (lines .entry)) n)) r (now (out .exit)) ⌝ }
     ensures { λ r. ⌜ r ≤ at + lineRoom * n ⌝ }
 {

@@ -3,6 +3,7 @@ ghost use mathlib.Core.Path.{_≡_};
 ghost use mathlib.Core.List.{[], _∷_};
 ghost use Prim.Native.Nat.{_+_, _*_, _≤_};
 ghost use lib.ListN.{length};
+ghost use Rattle.credit.specs.Lines.{lineNumbers};
 ghost use Rattle.notices.specs.Notices.{countOf};
 ghost use Rattle.numerals.specs.Lines.{line, bytesOfLines};
 ghost use Rattle.numerals.specs.Put.{Put};
@@ -15,7 +16,7 @@ use numerals::put_line;
 fn cannot_print(notices: usize, numbers: usize, room: usize) -> bool
     ensures { λ r. ⌜ r ≡ cannotPrint notices numbers room ⌝ }
 {
-    (numbers / 4 < notices) | (room / 152 <= notices)
+    (numbers / credit::LINE_NUMBERS < notices) | (room / 152 <= notices)
 }
 
 // Puts the line of a refused text at the front of the output.
@@ -58,7 +59,7 @@ fn put_statement(
     cents: u64,
     out: &mut [u8],
 ) -> usize
-    requires { ⌜ (4 * countOf (now list) ≤ length (now lines)) × (152 * countOf (now list) + 152 ≤ length (now out)) ⌝ }
+    requires { ⌜ (lineNumbers * countOf (now list) ≤ length (now lines)) × (152 * countOf (now list) + 152 ≤ length (now out)) ⌝ }
     ensures { λ r. ⌜ Put (now (out .entry)) 0 (statementBytes winter price (now (list .entry)) (now (lines .entry)) energy cents) r (now (out .exit)) ⌝ }
     ensures { λ r. ⌜ r ≤ length (now (out .entry)) ⌝ }
 {

@@ -25,7 +25,7 @@ use Rattle.laws.proofs.Stores.{take-replicate}
 use Rattle.laws.specs.Table.{refusalAt, firstOf, isRefusal}
 use Rattle.credit.proofs.RefusalLaws.{call-right}
 use Rattle.credit.proofs.SettlementLaws.{call-refused, written-just}
-use Rattle.credit.specs.Lines.{linesTo}
+use Rattle.credit.specs.Lines.{lineNumbers, linesTo}
 use Rattle.settlement.specs.Events.{eventAt}
 use Rattle.credit.specs.Refusals.{callRows}
 use Rattle.credit.specs.Settlement.{refusedWith, settlement, written}
@@ -80,13 +80,13 @@ module _ (w p : ℕ) (book l lines : List ℕ) (j : length lines ≡ roomFor l) 
 
 -- too many notices are refused by the call's own rows, whatever they are
 pub many-refused : (w p number : ℕ) (book l : List ℕ) (n : ℕ) → length l ≡ noticeNumbers * n → mostNotices < n
-    → refusalAt number 0 ≡ firstOf (callRows w (length book) p (noticeNumbers * n) (4 * n)) → refusedBytes number 0 ≡ settledBytes w book p l
+    → refusalAt number 0 ≡ firstOf (callRows w (length book) p (noticeNumbers * n) (lineNumbers * n)) → refusedBytes number 0 ≡ settledBytes w book p l
 many-refused w p number book l n h m e =
     let third : countIn (noticeNumbers * n) ≡ n = omega arith in
     let row : refusalAt number 0 ≡ firstOf (callRows w (length book) p (length l) (roomFor l)) = rw (h, third) e in
-    let none : number ≡ 0 → isRefusal (firstOf (callRows w (length book) p (noticeNumbers * n) (4 * n))) ≡ false
+    let none : number ≡ 0 → isRefusal (firstOf (callRows w (length book) p (noticeNumbers * n) (lineNumbers * n))) ≡ false
     = λ (z : number ≡ 0). ap isRefusal (sym e) ∙ rw z in
-    let some : number ≡ 0 → ⊥ = λ (z : number ≡ 0). omega (arith, call-right w (length book) p (noticeNumbers * n) (4 * n) (none z) .few) in
+    let some : number ≡ 0 → ⊥ = λ (z : number ≡ 0). omega (arith, call-right w (length book) p (noticeNumbers * n) (lineNumbers * n) (none z) .few) in
     let just : length {A = ℕ} (replicate (roomFor l) 0) ≡ roomFor l = length-replicate (roomFor l) 0 in
     settled-refused w p book l (replicate (roomFor l) 0) just (refusedWith number 0) (rw just (call-refused w p book l (roomFor l) number row some)) some
 

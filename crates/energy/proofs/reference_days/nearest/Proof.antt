@@ -7,14 +7,17 @@ use mathlib.Core.Logic.{⊎-elim}
 use mathlib.Core.Path.{_≡_, sym, ap, _∙_}
 use native.Mathlib.Omega.{arith}
 use Rattle.calendar.proofs.Promise.{days-few}
+use Rattle.energy.specs.ReferenceDays.{freeIn}
 use Rattle.energy.specs.Search.{freeServes}
-use Rattle.energy.proofs.ReferenceLaws.{goes-on, Walk, walk-start, walk-took, walk-passed, search-ends, past-le, free-day}
+use Rattle.energy.proofs.PastEvents.{past-le}
+use Rattle.energy.proofs.ReferenceLaws.{Walk, walk-start, walk-took, walk-passed, free-day}
+use Rattle.energy.proofs.SearchLaws.{goes-on, search-ends}
 use borrow.Author.Needs.{needs}
 use Rattle.energy.proofs.reference_days.nearest.Statement.{statement}
 use Rattle.energy.proofs.reference_days.nearest.Tie as tie
 
 abbrev Inv-loop : tie.InvT-loop
-Inv-loop w event masks day days₀ count₀ d₀ days count d = Walk w masks day days count d
+Inv-loop w event masks day days₀ count₀ d₀ days count d = Walk w (freeIn masks) day days count d
 
 abbrev μ-loop : tie.MeasureT-loop
 μ-loop w event masks day days₀ count₀ d₀ days count d = d
@@ -25,7 +28,7 @@ past-events-requires c κs = omega (arith, c .pre .0 .there, days-few _ (c .pre 
 loop-holds : tie.Need-loop-holds Inv-loop μ-loop
 loop-holds c =
     let called = c .before in
-    rw (c .past-events .ensures) (walk-start (called .args .w) (called .args .masks .now) (called .args .day))
+    rw (c .past-events .ensures) (walk-start (called .args .w) (freeIn (called .args .masks .now)) (called .args .day))
 
 sub-d : tie.Need-sub-d Inv-loop μ-loop
 sub-d c =
@@ -67,9 +70,9 @@ loop-less : tie.Need-loop-less Inv-loop μ-loop
 loop-less c =
     let in-loop = c .before .before .before in
     let at-loop = in-loop .before in
-    let masks = at-loop .before .before .args .masks .now in
+    let free = freeIn (at-loop .before .before .args .masks .now) in
     let turn = at-loop .loop in
-    omega (arith, goes-on (turn .d) (turn .count) (in-loop .loop-test .taken), c .past-events2 .ensures, past-le masks (turn .d - 1))
+    omega (arith, goes-on (turn .d) (turn .count) (in-loop .loop-test .taken), c .past-events2 .ensures, past-le free (turn .d - 1))
 
 loop-again : tie.Need-loop-again Inv-loop μ-loop
 loop-again c =
@@ -79,13 +82,14 @@ loop-again c =
     let turn = at-loop .loop in
     let called = at-loop .before .before in
     let a = called .args in
-    let more = goes-on (turn .d) (turn .count) (in-loop .loop-test .taken) in
+    let free = freeIn (a .masks .now) in
+    let on = goes-on (turn .d) (turn .count) (in-loop .loop-test .taken) in
     let of-kind = ap (λ weekend. freeServes (a .w) weekend (turn .d - 1)) (called .pre .1) in
-    let serves-is = asked .free-day-serves .ensures ∙ of-kind ∙ free-day (a .w) (a .masks .now) (a .day) (turn .d - 1) (turn .inv .free (more .0)) in
+    let serves-is = asked .free-day-serves .ensures ∙ of-kind ∙ free-day (a .w) free (a .day) (turn .d - 1) (turn .inv .next-free (on .days-left)) in
     rw (c .past-events2 .ensures)
     (⊎-elim
-    (λ took. rw (took .1, took .2) (walk-took _ _ _ (turn .days) (turn .count) (turn .d) more (sym serves-is ∙ took .0 .taken) (turn .inv)))
-    (λ passed. rw (passed .1, passed .2) (walk-passed _ _ _ (turn .days) (turn .count) (turn .d) more (sym serves-is ∙ passed .0 .left) (turn .inv)))
+    (λ took. rw (took .1, took .2) (walk-took _ free _ (turn .days) (turn .count) (turn .d) on (turn .inv) (sym serves-is ∙ took .0 .taken)))
+    (λ passed. rw (passed .1, passed .2) (walk-passed _ free _ (turn .days) (turn .count) (turn .d) on (turn .inv) (sym serves-is ∙ passed .0 .left)))
     (c .before .if1 .came))
 
 returns : tie.Need-returns Inv-loop μ-loop

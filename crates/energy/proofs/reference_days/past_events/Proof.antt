@@ -2,12 +2,14 @@
 -- Assumes nothing.
 use mathlib.Core.Path.{refl}
 use native.Mathlib.Omega.{arith}
-use Rattle.energy.proofs.ReferenceLaws.{Onward, onward-here, onward-none, onward-next}
+use Rattle.energy.specs.ReferenceDays.{freeIn}
+use Rattle.energy.proofs.PastEvents.{Onward, onward-here, onward-none, onward-next}
+use Rattle.energy.proofs.ReferenceLaws.{zero-free, nonzero-event}
 use Rattle.energy.proofs.reference_days.past_events.Statement.{statement}
 use Rattle.energy.proofs.reference_days.past_events.Tie as tie
 
 abbrev Inv-loop : tie.InvT-loop
-Inv-loop masks day d₀ d = Onward masks day d
+Inv-loop masks day d₀ d = Onward (freeIn masks) day d
 
 abbrev μ-loop : tie.MeasureT-loop
 μ-loop masks day d₀ d = d
@@ -31,7 +33,7 @@ returns : tie.Need-returns Inv-loop μ-loop
 returns c =
     let in-loop = c .before .before in
     let turn = in-loop .before .loop in
-    onward-here _ _ (turn .d) (turn .inv) (in-loop .loop-test .taken) (c .if1 .taken)
+    onward-here _ _ (turn .d) (turn .inv) (in-loop .loop-test .taken) (zero-free _ _ (c .if1 .taken))
 
 sub-d : tie.Need-sub-d Inv-loop μ-loop
 sub-d c = omega arith
@@ -43,7 +45,7 @@ loop-again : tie.Need-loop-again Inv-loop μ-loop
 loop-again c =
     let in-loop = c .before .before in
     let turn = in-loop .before .loop in
-    onward-next _ _ (turn .d) (turn .inv) (in-loop .loop-test .taken) (c .if1 .left)
+    onward-next _ _ (turn .d) (turn .inv) (in-loop .loop-test .taken) (nonzero-event _ _ (c .if1 .left))
 
 returns-2 : tie.Need-returns-2 Inv-loop μ-loop
 returns-2 c =
