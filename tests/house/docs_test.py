@@ -79,11 +79,11 @@ def crates_of_diagram():
 
 
 def check_times():
-    """Every crate has its row among the times that later changes are measured by; a crate that
-    was there then may be gone."""
+    """Every crate has its row in a table of times, in whichever entry it came; a crate that was
+    there then may be gone."""
     if not CHANGES.is_file():
         raise Failure("there is no docs/CHANGES.md")
-    firsts = [quoted(row.cells[0]) for row in rows(CHANGES) if row.section == "The base"]
+    firsts = [quoted(row.cells[0]) for row in rows(CHANGES) if "check" in row.head]
     check_none(sorted(set(crates()) - {name for first in firsts for name in first}), "missing")
 
 
