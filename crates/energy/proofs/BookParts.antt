@@ -25,10 +25,11 @@ use Rattle.energy.specs.Asked.{needed}
 use Rattle.energy.specs.Energy.{trimmedAt, energyOf}
 use Rattle.energy.specs.HoursOf.{HoursIn, warmRun, eventRun, askedIn}
 use Rattle.energy.specs.Line.{lineOf}
-use Rattle.energy.specs.Parts.{partsFault, trimmedIn, partsEnergy, partsLine, Days, SixDays}
+use Rattle.energy.specs.Parts.{partsFault, trimmedIn, partsEnergy, partsLine}
+use Rattle.energy.specs.Ready.{DaysReady, PartsReady}
 use Rattle.energy.specs.Trimmed.{trimmedOf}
 use Rattle.energy.specs.declared.hours.Hours.{Hours}
-use Rattle.energy.proofs.HourLaws.{warm-in, event-in}
+use Rattle.energy.proofs.HourLaws.{warm-hours, event-hours}
 use Rattle.energy.proofs.TrimmedLaws.{five}
 
 module _ (book : List ℕ) where
@@ -39,73 +40,77 @@ module _ (book : List ℕ) where
   AreParts (d ∷ ds) [] = ⊥
   AreParts (d ∷ ds) (p ∷ ps) = PartOf book d p × AreParts ds ps
 
-  pub parts-fault : (hours : List ℕ) → Every InDay hours → (f : Fault) (ds : List ℕ) (ps : List (List ℕ)) → AreParts ds ps
+  parts-fault : (hours : List ℕ) → Every InDay hours → (f : Fault) (ds : List ℕ) (ps : List (List ℕ)) → AreParts ds ps
       → partsFault hours f ds ps ≡ orFault f (firstFault book (placesOn hours ds))
   unfolding partsFault
-  parts-fault hours i f [] [] a = rw (no-days book hours) (or-none f)
-  parts-fault hours i f [] (p ∷ ps) a = absurd a
-  parts-fault hours i f (d ∷ ds) [] a = absurd a
-  parts-fault hours i f (d ∷ ds) (p ∷ ps) a =
-      parts-fault hours i (orFault f (faultOn d (firstFault p hours))) ds ps (a .1)
+  parts-fault hours in-day f [] [] are = rw (no-days book hours) (or-none f)
+  parts-fault hours in-day f [] (p ∷ ps) are = absurd are
+  parts-fault hours in-day f (d ∷ ds) [] are = absurd are
+  parts-fault hours in-day f (d ∷ ds) (p ∷ ps) are =
+      parts-fault hours in-day (orFault f (faultOn d (firstFault p hours))) ds ps (are .1)
       ∙ or-assoc f (faultOn d (firstFault p hours)) (firstFault book (placesOn hours ds))
-      ∙ rw (part-fault book d (a .0) hours i, day-first book hours d ds)
+      ∙ rw (part-fault book d (are .0) hours in-day, day-first book hours d ds)
 
   mapped-parts : (h : ℕ) → InDay h → (ds : List ℕ) (ps : List (List ℕ)) → AreParts ds ps
       → map (λ (p : List ℕ). readingAt p h) ps ≡ map (λ (d : ℕ). drawnAt book d h) ds
-  mapped-parts h b [] [] a = refl
-  mapped-parts h b [] (p ∷ ps) a = absurd a
-  mapped-parts h b (d ∷ ds) [] a = absurd a
-  mapped-parts h b (d ∷ ds) (p ∷ ps) a = rw (a .0 .each h b, mapped-parts h b ds ps (a .1))
+  mapped-parts h b [] [] are = refl
+  mapped-parts h b [] (p ∷ ps) are = absurd are
+  mapped-parts h b (d ∷ ds) [] are = absurd are
+  mapped-parts h b (d ∷ ds) (p ∷ ps) are = rw (are .0 .each h b, mapped-parts h b ds ps (are .1))
 
   trimmed-same : (ds : List ℕ) (ps : List (List ℕ)) → AreParts ds ps → (h : ℕ) → InDay h → trimmedIn ps h ≡ trimmedAt book ds h
   unfolding trimmedIn trimmedAt
-  trimmed-same ds ps a h b = ap trimmedOf (mapped-parts h b ds ps a)
+  trimmed-same ds ps are h b = ap trimmedOf (mapped-parts h b ds ps are)
 
-  module _ (hours : Hours) (inside : HoursIn hours) where
-    pub hours-in : Every InDay (warmRun hours ++ eventRun hours)
-    hours-in = joined InDay (warmRun hours) (eventRun hours) (warm-in hours inside) (event-in hours inside)
+-- an event day's part and those of its reference days
+module _ (book : List ℕ) (hours : Hours) (inside : HoursIn hours) (day : ℕ) (event : List ℕ) (is : PartOf book day event)
+    (refs : List ℕ) (parts : List (List ℕ)) (are : AreParts book refs parts) where
+  fault-is : partsFault (warmRun hours ++ eventRun hours) Clean (day ∷ refs) (event ∷ parts)
+      ≡ firstFault book (placesOn (warmRun hours ++ eventRun hours) (day ∷ refs))
+  fault-is =
+      let in-day = joined InDay (warmRun hours) (eventRun hours) (warm-hours hours inside) (event-hours hours inside) in
+      parts-fault book (warmRun hours ++ eventRun hours) in-day Clean (day ∷ refs) (event ∷ parts) (is, are)
 
-    pub parts-energy : (day : ℕ) (event : List ℕ) (ds : List ℕ) (ps : List (List ℕ)) → PartOf book day event → AreParts ds ps
-        → partsEnergy hours event ps ≡ energyOf book (askedIn day hours ds)
-    unfolding partsEnergy energyOf
-    parts-energy day event ds ps e a =
-        rw (
-          run-long (hours .start) (hours .end),
-          run-long (hours .warm) (hours .pause),
-          trims (eventRun hours) (event-in hours inside),
-          trims (warmRun hours) (warm-in hours inside),
-          drawn (warmRun hours) (warm-in hours inside),
-          drawn (eventRun hours) (event-in hours inside),
-        )
-      where
-        trims : (hs : List ℕ) → Every InDay hs → sumOver (trimmedIn ps) hs ≡ sumOver (trimmedAt book ds) hs
-        trims hs i = sum-same (trimmedIn ps) (trimmedAt book ds) hs (imply InDay _ (trimmed-same ds ps a) hs i)
+  energy-is : partsEnergy hours event parts ≡ energyOf book (askedIn day hours refs)
+  unfolding partsEnergy energyOf
+  energy-is =
+      rw (
+        run-long (hours .start) (hours .end),
+        run-long (hours .warm) (hours .pause),
+        trims (eventRun hours) (event-hours hours inside),
+        trims (warmRun hours) (warm-hours hours inside),
+        drawn (warmRun hours) (warm-hours hours inside),
+        drawn (eventRun hours) (event-hours hours inside),
+      )
+    where
+      trims : (hs : List ℕ) → Every InDay hs → sumOver (trimmedIn parts) hs ≡ sumOver (trimmedAt book refs) hs
+      trims hs in-day = sum-same (trimmedIn parts) (trimmedAt book refs) hs (imply InDay _ (trimmed-same book refs parts are) hs in-day)
 
-        drawn : (hs : List ℕ) → Every InDay hs → sumOver (readingAt event) hs ≡ sumOver (drawnAt book day) hs
-        drawn hs i = sum-same (readingAt event) (drawnAt book day) hs (imply InDay _ (e .each) hs i)
+      drawn : (hs : List ℕ) → Every InDay hs → sumOver (readingAt event) hs ≡ sumOver (drawnAt book day) hs
+      drawn hs in-day = sum-same (readingAt event) (drawnAt book day) hs (imply InDay _ (is .each) hs in-day)
 
-pub days-in : (w : Winter) (n day : ℕ) (refs : List ℕ) → SixDays w n day refs → Days day refs
-days-in w n day refs s = record {
-  day-in = part-day w n day (s .day-there);
-  refs-in = λ (k : ℕ) (b : k < 5). part-day w n (getD refs k 0) (s .refs-there k b);
+  line-is : length refs ≡ 5 → partsLine day refs hours event parts ≡ lineOf book (askedIn day hours refs)
+  unfolding lineOf needed partsLine
+  line-is five-refs = kept _ (le-ltb (length refs) 5 (omega arith)) (rw (fault-is, energy-is))
+
+-- what six days that have their parts in the book ask of the rules on parts
+pub days-ready : (w : Winter) (n day : ℕ) (refs : List ℕ) (hours : Hours) → PartsReady w n day refs hours → DaysReady day refs hours
+days-ready w n day refs hours ready = record {
+  day-fits = part-day w n day (ready .day-there);
+  refs-fit = λ (k : ℕ) (b : k < 5). part-day w n (getD refs k 0) (ready .refs-there k b);
+  hours-in = ready .hours-in;
 }
 
--- six parts of one book: the line by them is the line by the book
-module _ (book : List ℕ) (day : ℕ) (refs : List ℕ) {p q r s t u : List ℕ} (e : PartOf book day p) (e0 : PartOf book (getD refs 0 0) q)
-    (e1 : PartOf book (getD refs 1 0) r) (e2 : PartOf book (getD refs 2 0) s) (e3 : PartOf book (getD refs 3 0) t) (e4 : PartOf book (getD refs 4 0) u) where
-  refs-parts : length refs ≡ 5 → AreParts book refs (q ∷ r ∷ s ∷ t ∷ u ∷ [])
-  refs-parts n =
-      subst (λ (ds : List ℕ). AreParts book ds (q ∷ r ∷ s ∷ t ∷ u ∷ [])) (five refs n)
-      (e0, (e1, (e2, (e3, (e4, tt)))))
-
-  pub book-line : length refs ≡ 5 → (hours : Hours) → HoursIn hours → {a : Answer}
-      → a ≡ partsLine day refs hours p (q ∷ r ∷ s ∷ t ∷ u ∷ []) → a ≡ lineOf book (askedIn day hours refs)
-  unfolding lineOf needed partsLine
-  book-line n hours inside g =
-      let refs-are = refs-parts n in
-      kept _ (le-ltb (length refs) 5 (omega arith))
-      (rw (
-        ← parts-fault book (warmRun hours ++ eventRun hours) (hours-in book hours inside) Clean (day ∷ refs) (p ∷ q ∷ r ∷ s ∷ t ∷ u ∷ []) (e, refs-are),
-        ← parts-energy book hours inside day p refs (q ∷ r ∷ s ∷ t ∷ u ∷ []) e refs-are,
-      )
-      g)
+-- the line by six parts of one book is the line by the book
+pub book-line : (book : List ℕ) (day : ℕ) (refs : List ℕ) (hours : Hours) → length refs ≡ 5 → HoursIn hours → {event p0 p1 p2 p3 p4 : List ℕ}
+    → PartOf book day event
+    → PartOf book (getD refs 0 0) p0
+    → PartOf book (getD refs 1 0) p1
+    → PartOf book (getD refs 2 0) p2
+    → PartOf book (getD refs 3 0) p3
+    → PartOf book (getD refs 4 0) p4
+    → {a : Answer} → a ≡ partsLine day refs hours event (p0 ∷ p1 ∷ p2 ∷ p3 ∷ p4 ∷ []) → a ≡ lineOf book (askedIn day hours refs)
+book-line book day refs hours five-refs inside {event} {p0} {p1} {p2} {p3} {p4} is is0 is1 is2 is3 is4 e =
+    let parts = p0 ∷ p1 ∷ p2 ∷ p3 ∷ p4 ∷ [] in
+    let are = subst (λ (ds : List ℕ). AreParts book ds parts) (five refs five-refs) (is0, (is1, (is2, (is3, (is4, tt))))) in
+    e ∙ line-is book hours inside day event is refs parts are five-refs

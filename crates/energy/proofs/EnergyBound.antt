@@ -9,6 +9,7 @@ use native.Mathlib.Nat.{mul-le-mul-right, div-mul-le-self}
 use native.Mathlib.Omega.{arith}
 use lib.ListN.{length}
 use Rattle.laws.specs.Bounds.{largestEnergy}
+use Rattle.book.specs.Values.{largestReading}
 use Rattle.laws.proofs.Every.{Every}
 use Rattle.laws.proofs.Order.{either-order}
 use Rattle.energy.specs.Spared.{sparedOf}
@@ -48,6 +49,6 @@ spared-le h w r b a c =
     (either-order (720000 + (b * (6 * h / w) + 18 * c)) (6 * r + 3 * a * (6 * h / w)))
 
 -- R and A as they are when every needed reading is at most 10,000,000; B, C and W may be any
-pub spared-bound : (h w r b a c : ℕ) → h ≤ 4 → r ≤ 3 * 10000000 * h → a ≤ 10000000 * w → sparedOf h w r b a c ≤ largestEnergy
+pub spared-bound : (h w r b a c : ℕ) → h ≤ 4 → r ≤ 3 * largestReading * h → a ≤ largestReading * w → sparedOf h w r b a c ≤ largestEnergy
 spared-bound h w r b a c hh hr ha =
     omega (arith, spared-le h w r b a c, mul-le-mul-right (6 * h / w) ha, div-mul-le-self (6 * h) w)

@@ -6,10 +6,10 @@ use mathlib.Core.Bool.{false}
 use mathlib.Core.List.{List, [], _∷_, _++_, map}
 use mathlib.Core.Path.{_≡_, refl, sym, ap, _∙_}
 use native.Mathlib.Omega.{arith}
-use lib.ListN.{length, getD, length-map}
+use lib.ListN.{length, length-map}
 use borrow.Author.Tests.{not-false}
 use Rattle.laws.specs.Bounds.{largestEnergy}
-use Rattle.book.proofs.FirstFault.{Right}
+use Rattle.book.proofs.FirstFault.{Holds}
 use Rattle.book.proofs.PartLaws.{part-there, part-earlier, places-in}
 use Rattle.book.proofs.PlaceLaws.{at-hours}
 use Rattle.book.proofs.RunLaws.{hours-long, hours-below}
@@ -22,7 +22,7 @@ use Rattle.calendar.proofs.Promise.{in-book}
 use Rattle.calendar.specs.declared.answers.Winter.{Winter}
 use Rattle.laws.proofs.Every.{Every, left, right, joined, imply, map-of}
 use Rattle.laws.proofs.Refusals.{passed}
-use Rattle.laws.specs.Answer.{Answer, given}
+use Rattle.laws.specs.Answer.{given}
 use Rattle.notices.specs.declared.notices.Notice.{Notice}
 use Rattle.energy.specs.Asked.{Asked, askedBy, warmUp, needed}
 use Rattle.energy.specs.Energy.{trimmedAt, energyOf}
@@ -32,16 +32,16 @@ use Rattle.energy.specs.ReferenceDays.{freeIn, referenceDays}
 use Rattle.energy.proofs.EnergyBound.{trimmed-bound, spared-bound}
 use Rattle.energy.proofs.HourLaws.{in-band, warm-below}
 use Rattle.energy.proofs.Nearest.{refs-serve, refs-few}
-use Rattle.energy.proofs.Unsettled.{settled-where, settled-only}
+use Rattle.energy.proofs.Unsettled.{codeOn, energyOn, settled-where, settled-only}
 
 -- readings: those of a clean event are at most the largest
-module _ (book : List ℕ) (q : Asked) (five : length (q .refs) ≡ 5) (all : Every (Right book) (needed q)) where
+module _ (book : List ℕ) (q : Asked) (five : length (q .refs) ≡ 5) (all : Every (Holds book) (needed q)) where
   abbrev HourMost : ℕ → Type 0
   HourMost h = Every (λ (d : ℕ). drawnAt book d h ≤ largestReading) (q .day ∷ q .refs)
 
   hours-most : Every HourMost (q .warm ++ q .event)
   unfolding needed
-  hours-most = at-hours (Right book) (q .warm ++ q .event) (q .day ∷ q .refs) all
+  hours-most = at-hours (Holds book) (q .warm ++ q .event) (q .day ∷ q .refs) all
 
   drawn-most : Every (λ (h : ℕ). drawnAt book (q .day) h ≤ largestReading) (q .warm ++ q .event)
   drawn-most = imply HourMost _ (λ h x. x .0) (q .warm ++ q .event) hours-most
@@ -62,39 +62,49 @@ module _ (book : List ℕ) (q : Asked) (five : length (q .refs) ≡ 5) (all : Ev
       (sum-most (trimmedAt book (q .refs)) (3 * largestReading) (q .event) (right _ (q .warm) (q .event) trimmed-most))
       (sum-most (drawnAt book (q .day)) largestReading (q .warm) (left _ (q .warm) (q .event) drawn-most))
 
+-- a call that is not refused: the day is in the book, the hours lie in a band, and the line is the answer
+record Taken (w : Winter) (book masks : List ℕ) (n : Notice) (vs : List ℕ) : Type 0 where
+  there : noPart w (length book) (n .day) ≡ false
+  spans : Spans (n .start) (n .end)
+  line : lineOf book (askedBy w (freeIn masks) n) ≡ given vs
+
 module _ (w : Winter) (book masks : List ℕ) (n : Notice) where
-  -- a call that is not refused: the day is in the book, the hours lie in a band, and the line is the answer
-  taken : (vs : List ℕ) → eventAnswer w book masks n ≡ given vs
-      → (noPart w (length book) (n .day) ≡ false) × Spans (n .start) (n .end) × (lineOf book (askedBy w (freeIn masks) n) ≡ given vs)
+  taken : (vs : List ℕ) → eventAnswer w book masks n ≡ given vs → Taken w book masks n vs
   unfolding eventAnswer
   taken vs e =
-      let a = passed 0 _ _ vs e in
-      let b = passed 1 _ _ vs (a .1) in
-      let c = passed 9 _ _ vs (b .1) in
-      let d = passed 12 _ _ vs (c .1) in
-      let there = part-there w (length book) (n .day) (a .0) (b .0) (in-book w (n .day) (not-false _ (c .0))) in
-      (there, in-band _ n refl (d .0), d .1)
+      let winter = passed 0 _ _ vs e in
+      let whole = passed 1 _ _ vs (winter .1) in
+      let period = passed 9 _ _ vs (whole .1) in
+      let hours = passed 12 _ _ vs (period .1) in
+      record {
+        there = part-there w (length book) (n .day) (winter .0) (whole .0) (in-book w (n .day) (not-false _ (period .0)));
+        spans = in-band _ n refl (hours .0);
+        line = hours .1;
+      }
+
+  abbrev refs : List ℕ
+  refs = referenceDays w (freeIn masks) (n .day)
 
   pub needed-in : (vs : List ℕ) → eventAnswer w book masks n ≡ given vs → Every (λ (p : ℕ). p < length book) (needed (askedBy w (freeIn masks) n))
   unfolding needed askedBy
   needed-in vs e =
-      let t = taken vs e in
-      let s = t .1 in
-      let warm = warm-below w (n .day) (n .start) (omega (arith, s .in-day, s .some-hour)) in
-      let event = hours-below (n .start) (n .end - n .start) (omega (arith, s .in-day, s .some-hour)) in
-      let refs =
-      imply _ _ (λ d x. part-earlier w (length book) (n .day) d (t .0) (omega (arith, x .0))) (referenceDays w (freeIn masks) (n .day)) (refs-serve w (freeIn masks) (n .day)) in
-      places-in w (length book) _ _ (joined InDay (warmUp w (n .day) (n .start)) (hoursFrom (n .start) (n .end - n .start)) warm event) (t .0, refs)
+      let event-is = taken vs e in
+      let in-band = event-is .spans in
+      let warm = warm-below w (n .day) (n .start) (omega (arith, in-band .in-day, in-band .some-hour)) in
+      let event = hours-below (n .start) (n .end - n .start) (omega (arith, in-band .in-day, in-band .some-hour)) in
+      let hours = joined InDay (warmUp w (n .day) (n .start)) (hoursFrom (n .start) (n .end - n .start)) warm event in
+      let there =
+      imply _ _ (λ d p. part-earlier w (length book) (n .day) d (event-is .there) (omega (arith, p .earlier))) refs
+      (refs-serve w (freeIn masks) (n .day)) in
+      places-in w (length book) _ _ hours (event-is .there, there)
 
   pub energy-most : (e : ℕ) → eventAnswer w book masks n ≡ settled e → e ≤ largestEnergy
   unfolding askedBy
   energy-most e q =
-      let t = taken (0 ∷ 0 ∷ e ∷ []) q in
-      let l = settled-only book (askedBy w (freeIn masks) n) (ap (λ (a : Answer). getD (a .values) 0 0) (t .2)) in
-      let same = sym (settled-where book (askedBy w (freeIn masks) n) (l .0) (l .1)) ∙ t .2 in
-      omega (
-        arith,
-        ap (λ (a : Answer). getD (a .values) 2 0) same,
-        readings-most book (askedBy w (freeIn masks) n) (omega (arith, l .0, refs-few w (freeIn masks) (n .day))) (l .1)
-            (omega (arith, hours-long (n .start) (n .end - n .start), t .1 .few)),
-      )
+      let event-is = taken (0 ∷ 0 ∷ e ∷ []) q in
+      let asked = askedBy w (freeIn masks) n in
+      let why = settled-only book asked (ap codeOn (event-is .line)) in
+      let same = sym (settled-where book asked why) ∙ event-is .line in
+      let few : length (asked .event) ≤ 4 = omega (arith, hours-long (n .start) (n .end - n .start), event-is .spans .few) in
+      let five : length refs ≡ 5 = omega (arith, why .five-refs, refs-few w (freeIn masks) (n .day)) in
+      omega (arith, ap energyOn same, readings-most book asked five (why .all-readings) few)

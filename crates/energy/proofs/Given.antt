@@ -32,6 +32,7 @@ use Rattle.energy.specs.ReferenceDays.{freeIn}
 use Rattle.energy.specs.declared.lines.Line.the-variants as LineCase
 use Rattle.energy.specs.declared.lines.Line.{Line}
 use Rattle.energy.proofs.EventLaws.{energy-most}
+use Rattle.energy.proofs.Unsettled.{codeOn, energyOn}
 
 -- an answer that is some line's paper
 record Paper (a : Answer) : Type 0 where
@@ -52,10 +53,6 @@ event-paper w book masks n =
     refuse-paper _ LineCase.NoWinter _ (refuse-paper _ LineCase.BadBook _ (refuse-paper _ LineCase.OutsidePeriod _ (refuse-paper _ LineCase.BadHours _
     (refuse-paper _ LineCase.FewDays _ (fault-paper (firstFault book (needed (askedBy w (freeIn masks) n))) (energyOf book (askedBy w (freeIn masks) n)))))))
 
--- the energy of an answer: the third value, 0 where there is none
-abbrev pub energyOn : Answer → ℕ
-energyOn a = getD (a .values) 2 0
-
 line-most : (r : Line) → ((e : ℕ) → linePaper r ≡ settled e → e ≤ largestEnergy) → energyOn (linePaper r) ≤ largestEnergy
 line-most (LineCase.Settled energy) m = m energy refl
 line-most LineCase.FewDays m = omega arith
@@ -68,12 +65,12 @@ line-most LineCase.BadHours m = omega arith
 
 pub answer-most : (w : Winter) (book masks : List ℕ) (n : Notice) → energyOn (eventAnswer w book masks n) ≤ largestEnergy
 answer-most w book masks n =
-    let p = event-paper w book masks n in
-    rw (← p .paper) (line-most (p .line) (λ e q. energy-most w book masks n e (sym (p .paper) ∙ q)))
+    let told = event-paper w book masks n in
+    rw (← told .paper) (line-most (told .line) (λ e q. energy-most w book masks n e (sym (told .paper) ∙ q)))
 
 -- code, place and energy are all that a line has
 abbrev pub threeOf : Answer → Answer
-threeOf a = given (getD (a .values) 0 0 ∷ getD (a .values) 1 0 ∷ getD (a .values) 2 0 ∷ [])
+threeOf a = given (codeOn a ∷ getD (a .values) 1 0 ∷ energyOn a ∷ [])
 
 fault-three : (f : Fault) (energy : ℕ) → byFault f energy ≡ threeOf (byFault f energy)
 fault-three Clean energy = refl

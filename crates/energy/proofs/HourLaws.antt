@@ -30,29 +30,29 @@ use Rattle.energy.specs.declared.hours.Hours.{Hours}
 
 -- hours that rule 13 does not refuse under the winter credit lie in a band
 pub in-band : (f : Figures) (n : Notice) → f ≡ figuresOf Credit → badHours f n ≡ false → Spans (n .start) (n .end)
-in-band f n fe e =
-    let p = hours-iff credit n .0 (rw (← credit-figures, ← fe) e) in
-    let some = p .0 in
+in-band f n is e =
+    let rule = hours-iff credit n .0 (rw (← credit-figures, ← is) e) in
+    let some = rule .0 in
     ⊎-elim
     (λ (m : Inside (credit .morning) n). record { late = m .from; some-hour = some; few = omega arith; in-day = omega arith })
     (λ (m : Inside (credit .evening) n). record { late = omega arith; some-hour = some; few = omega arith; in-day = m .to })
-    (p .1)
+    (rule .1)
 
 -- the warm-up and the event hours that the code holds are hours of the day
 module _ (hours : Hours) (inside : HoursIn hours) where
-  pub warm-in : Every InDay (warmRun hours)
-  warm-in = run-below (hours .warm) (hours .pause) (omega (arith, inside .two-warm)) (inside .warm-in)
+  pub warm-hours : Every InDay (warmRun hours)
+  warm-hours = run-below (hours .warm) (hours .pause) (inside .warm-in .in-order) (inside .warm-in .in-day)
 
-  pub event-in : Every InDay (eventRun hours)
-  event-in = run-below (hours .start) (hours .end) (inside .in-order) (inside .event-in)
+  pub event-hours : Every InDay (eventRun hours)
+  event-hours = run-below (hours .start) (hours .end) (inside .event-in .in-order) (inside .event-in .in-day)
 
 -- and so a fault among them is told at one
 module _ (part : List ℕ) (hours : Hours) (inside : HoursIn hours) {f : Fault} where
   pub warm-told : f ≡ firstFault part (warmRun hours) → AtPlace InDay f
-  warm-told e = rw e (fault-among part InDay (warmRun hours) (warm-in hours inside))
+  warm-told e = rw e (fault-among part InDay (warmRun hours) (warm-hours hours inside))
 
   pub event-told : f ≡ firstFault part (eventRun hours) → AtPlace InDay f
-  event-told e = rw e (fault-among part InDay (eventRun hours) (event-in hours inside))
+  event-told e = rw e (fault-among part InDay (eventRun hours) (event-hours hours inside))
 
 -- document 01's warm-up hours are hours of the day
 pub warm-below : (w : Winter) (day s : ℕ) → s ≤ 20 → Every InDay (warmUp w day s)
@@ -63,6 +63,7 @@ warm-below w day s b = by (ltb s (credit .evening .start))
     by true = hours-below (s - 5) 3 (omega arith)
     by false = hours-below (s - 4) 2 (omega arith)
 
+-- the hours that the code holds are those of the event
 module _ (w : Winter) (day s e : ℕ) (p : Spans s e) where
   pub morning-hours : s < credit .evening .start → HoursFor w day s e (record { warm = s - 5; pause = s - 2; start = s; end = e })
   unfolding warmUp
@@ -70,7 +71,12 @@ module _ (w : Winter) (day s e : ℕ) (p : Spans s e) where
       record {
         warm-are = rw (lt-ltb s (credit .evening .start) b) (run-from (s - 5) (s - 2) 3 (omega arith));
         event-are = run-from s e (e - s) refl;
-        inside = record { two-warm = omega arith; warm-in = omega arith; in-order = omega arith; few-event = omega arith; event-in = omega arith };
+        inside = record {
+          warm-in = record { in-order = omega arith; in-day = omega arith };
+          two-warm = omega arith;
+          event-in = record { in-order = omega arith; in-day = omega arith };
+          few-event = omega arith;
+        };
       }
 
   pub evening-hours : credit .evening .start ≤ s → HoursFor w day s e (record { warm = s - 4; pause = s - 2; start = s; end = e })
@@ -79,5 +85,10 @@ module _ (w : Winter) (day s e : ℕ) (p : Spans s e) where
       record {
         warm-are = rw (le-ltb s (credit .evening .start) b) (run-from (s - 4) (s - 2) 2 (omega arith));
         event-are = run-from s e (e - s) refl;
-        inside = record { two-warm = omega arith; warm-in = omega arith; in-order = omega arith; few-event = omega arith; event-in = omega arith };
+        inside = record {
+          warm-in = record { in-order = omega arith; in-day = omega arith };
+          two-warm = omega arith;
+          event-in = record { in-order = omega arith; in-day = omega arith };
+          few-event = omega arith;
+        };
       }

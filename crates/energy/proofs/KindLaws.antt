@@ -16,6 +16,11 @@ use Rattle.calendar.specs.declared.answers.Kind.{Kind}
 use Rattle.calendar.specs.declared.answers.Winter.{Winter}
 use Rattle.energy.specs.Search.{BookDay, OnDay}
 
+-- a day past a winter's book
+pub record PastBook (w : Winter) (d : ℕ) : Type 0 where
+  pub right : wrongWinter w ≡ false
+  pub no-period : not (inPeriod w d) ≡ true
+
 module _ (w : Winter) (d : ℕ) (r : DayKind) where
   pub told-day : (k : Kind) → r ≡ Is k → kindPaper r ≡ dayKind w d → OnDay w d k
   told-day k q e =
@@ -23,10 +28,10 @@ module _ (w : Winter) (d : ℕ) (r : DayKind) where
       let known = day-known w d r k q right e in
       rw (known .1) (record { day = record { right = right; there = book-day w d (known .0) }; period = refl; week = refl })
 
-  pub told-past : r ≡ NoDay → kindPaper r ≡ dayKind w d → (wrongWinter w ≡ false) × (not (inPeriod w d) ≡ true)
+  pub told-past : r ≡ NoDay → kindPaper r ≡ dayKind w d → PastBook w d
   told-past q e =
       let right = right-known w d r (λ (z : r ≡ NoWinter). cc) e in
-      (right, rw (past-period w d (no-day-known w d r (inl q) right e)))
+      record { right = right; no-period = rw (past-period w d (no-day-known w d r (inl q) right e)) }
 
   pub never-past : (r ≡ NoDay) ⊎ (r ≡ NoWinter) → BookDay w d → kindPaper r ≡ dayKind w d → ⊥
   never-past q day e =

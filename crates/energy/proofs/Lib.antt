@@ -1,5 +1,7 @@
 pub mod Agree
+pub mod AllReadings
 pub mod BookParts
+pub mod DayFaults
 pub mod EnergyBound
 pub mod EventLaws
 pub mod Given
@@ -8,7 +10,6 @@ pub mod KindLaws
 pub mod LineLaws
 pub mod Nearest
 pub mod OneOutcome
-pub mod PartLaws
 pub mod PastEvents
 pub mod ReferenceLaws
 pub mod Scaled

@@ -16,17 +16,21 @@ use Rattle.energy.specs.ReferenceDays.{serves, before, referenceDays}
 
 -- the days before d that pass a test
 
--- each passes, and is before d
-pub before-pass : (ok : ℕ → Bool) (d : ℕ) → Every (λ (x : ℕ). (x < d) × (ok x ≡ true)) (before ok d)
+-- x passes, and is before d
+pub record Passes (ok : ℕ → Bool) (d x : ℕ) : Type 0 where
+  pub earlier : x < d
+  pub ok-is : ok x ≡ true
+
+before-pass : (ok : ℕ → Bool) (d : ℕ) → Every (Passes ok d) (before ok d)
 unfolding before
 before-pass ok zero = tt
-before-pass ok (suc d) =
-    by (ok d) refl
-    (imply (λ (x : ℕ). (x < d) × (ok x ≡ true)) (λ (x : ℕ). (x < suc d) × (ok x ≡ true)) (λ x h. (omega arith, h .1)) (before ok d) (before-pass ok d))
+before-pass ok (suc d) = by (ok d) refl (imply (Passes ok d) (Passes ok (suc d)) later (before ok d) (before-pass ok d))
   where
-    by : (t : Bool) → ok d ≡ t → Every (λ (x : ℕ). (x < suc d) × (ok x ≡ true)) (before ok d)
-        → Every (λ (x : ℕ). (x < suc d) × (ok x ≡ true)) (cond t (d ∷ before ok d) (before ok d))
-    by true e rest = ((omega arith, e), rest)
+    later : (x : ℕ) → Passes ok d x → Passes ok (suc d) x
+    later x p = record { earlier = omega (arith, p .earlier); ok-is = p .ok-is }
+
+    by : (t : Bool) → ok d ≡ t → Every (Passes ok (suc d)) (before ok d) → Every (Passes ok (suc d)) (cond t (d ∷ before ok d) (before ok d))
+    by true e rest = (record { earlier = omega arith; ok-is = e }, rest)
     by false e rest = rest
 
 -- a list falls: each number is above all that come after it
@@ -34,13 +38,13 @@ abbrev pub Falls : List ℕ → Type 0
 Falls [] = Unit {0}
 Falls (x ∷ xs) = Every (λ (z : ℕ). z < x) xs × Falls xs
 
-pub before-falls : (ok : ℕ → Bool) (d : ℕ) → Falls (before ok d)
+before-falls : (ok : ℕ → Bool) (d : ℕ) → Falls (before ok d)
 unfolding before
 before-falls ok zero = tt
 before-falls ok (suc d) = by (ok d) (before-falls ok d)
   where
     lower : Every (λ (x : ℕ). x < d) (before ok d)
-    lower = imply (λ (x : ℕ). (x < d) × (ok x ≡ true)) (λ (x : ℕ). x < d) (λ x h. h .0) (before ok d) (before-pass ok d)
+    lower = imply (Passes ok d) (λ (x : ℕ). x < d) (λ x p. p .earlier) (before ok d) (before-pass ok d)
 
     by : (t : Bool) → Falls (before ok d) → Falls (cond t (d ∷ before ok d) (before ok d))
     by true rest = (lower, rest)
@@ -76,19 +80,19 @@ met-next x d ds h rest false e n =
     clash : _≡_ {A = Bool} false true → ⊥
     clash p = let z : _≡_ {A = ℕ} 0 1 = cc in omega arith
 
-pub before-met : (ok : ℕ → Bool) (d n x : ℕ) → x < d → ok x ≡ true → Met x n (take n (before ok d))
+before-met : (ok : ℕ → Bool) (d n x : ℕ) → x < d → ok x ≡ true → Met x n (take n (before ok d))
 unfolding before
 before-met ok zero n x h t = absurd (omega arith)
 before-met ok (suc d) n x h t = met-next x d (before ok d) h (λ n l. before-met ok d n x l t) (ok d) (λ (q : x ≡ d). rw q at t) n
 
 -- the reference days
 module _ (w : Winter) (free : ℕ → Bool) (day : ℕ) where
-  pub refs-serve : Every (λ (d : ℕ). (d < day) × (serves w free day d ≡ true)) (referenceDays w free day)
+  pub refs-serve : Every (Passes (serves w free day) day) (referenceDays w free day)
   unfolding referenceDays
-  refs-serve =
-      front (λ (d : ℕ). (d < day) × (serves w free day d ≡ true)) 5 (before (serves w free day) day) (before-pass (serves w free day) day)
+  refs-serve = front (Passes (serves w free day) day) 5 (before (serves w free day) day) (before-pass (serves w free day) day)
 
-  pub refs-fall : (i j : ℕ) → i < j → j < length (referenceDays w free day) → getD (referenceDays w free day) j 0 < getD (referenceDays w free day) i 0
+  pub refs-fall : (i j : ℕ) → i < j → j < length (referenceDays w free day)
+      → getD (referenceDays w free day) j 0 < getD (referenceDays w free day) i 0
   unfolding referenceDays
   refs-fall = falls-at (referenceDays w free day) (falls-front 5 (before (serves w free day) day) (before-falls (serves w free day) day))
 

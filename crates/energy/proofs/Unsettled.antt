@@ -9,7 +9,7 @@ use native.Mathlib.Omega.{arith}
 use lib.Dec.{ltb}
 use lib.ListN.{length, getD}
 use borrow.Author.Tests.{ltb-true, ltb-false, le-ltb}
-use Rattle.book.proofs.FirstFault.{Right, Found, first-found, no-fault}
+use Rattle.book.proofs.FirstFault.{Holds, FaultTells, first-found, no-fault}
 use Rattle.book.specs.Readings.{firstFault}
 use Rattle.book.specs.declared.values.Fault.the-variants.{Clean, Missing, TooLarge}
 use Rattle.book.specs.declared.values.Fault.{Fault}
@@ -20,37 +20,57 @@ use Rattle.energy.specs.Asked.{Asked, needed}
 use Rattle.energy.specs.Energy.{energyOf}
 use Rattle.energy.specs.Line.{settled, unsettled, byFault, lineOf}
 
-module _ (book : List ℕ) where
-  module _ (q : Asked) where
-    -- why an answer: code 20 for fewer than five reference days, or else by the first fault among the needed readings
-    abbrev pub Why : Answer → Type 0
-    Why a =
-        ((length (q .refs) < 5) × (a ≡ unsettled 20 0))
-        ⊎ ((5 ≤ length (q .refs)) × (a ≡ byFault (firstFault book (needed q)) (energyOf book q)) × Found book (needed q) (firstFault book (needed q)))
+-- the code and the energy of an answer: its first and its third value, 0 where there is none
+abbrev pub codeOn : Answer → ℕ
+codeOn a = getD (a .values) 0 0
 
-    pub line-why : Why (lineOf book q)
-    unfolding lineOf
-    line-why =
-        either-way Why (ltb (length (q .refs)) 5) (λ few. inl (ltb-true (length (q .refs)) 5 few, refl))
-        (λ enough. inr (ltb-false (length (q .refs)) 5 enough, refl, first-found book (needed q)))
+abbrev pub energyOn : Answer → ℕ
+energyOn a = getD (a .values) 2 0
 
-    -- settled exactly where there are five reference days and all needed readings
-    pub settled-where : 5 ≤ length (q .refs) → Every (Right book) (needed q) → lineOf book q ≡ settled (energyOf book q)
-    unfolding lineOf
-    settled-where five all =
-        sym (kept (unsettled 20 0) (le-ltb (length (q .refs)) 5 five) (sym (ap (λ (f : Fault). byFault f (energyOf book q)) (no-fault book (needed q) all))))
+module _ (book : List ℕ) (q : Asked) where
+  -- why an answer: code 20 for fewer than five reference days
+  pub record FewRefs (a : Answer) : Type 0 where
+    pub few-refs : length (q .refs) < 5
+    pub answer : a ≡ unsettled 20 0
 
-    abbrev codeOf : Answer → ℕ
-    codeOf a = getD (a .values) 0 0
+  -- or else by the first fault among the needed readings
+  pub record ByReadings (a : Answer) : Type 0 where
+    pub five-refs : 5 ≤ length (q .refs)
+    pub answer : a ≡ byFault (firstFault book (needed q)) (energyOf book q)
+    pub told : FaultTells book (needed q) (firstFault book (needed q))
 
-    by-code : (f : Fault) → Found book (needed q) f → codeOf (byFault f (energyOf book q)) ≡ 0 → Every (Right book) (needed q)
-    by-code Clean t z = t
-    by-code (Missing p) t z = absurd (omega (arith, z))
-    by-code (TooLarge p) t z = absurd (omega (arith, z))
+  abbrev pub Why : Answer → Type 0
+  Why a = FewRefs a ⊎ ByReadings a
 
-    pub settled-only : codeOf (lineOf book q) ≡ 0 → (5 ≤ length (q .refs)) × Every (Right book) (needed q)
-    settled-only z = by (lineOf book q) line-why z
-      where
-        by : (a : Answer) → Why a → codeOf a ≡ 0 → (5 ≤ length (q .refs)) × Every (Right book) (needed q)
-        by a (inl few) z = absurd (omega (arith, ap codeOf (few .1), z))
-        by a (inr enough) z = (enough .0, by-code (firstFault book (needed q)) (enough .2) (sym (ap codeOf (enough .1)) ∙ z))
+  pub line-why : Why (lineOf book q)
+  unfolding lineOf
+  line-why =
+      either-way Why (ltb (length (q .refs)) 5)
+      (λ few. inl (record { few-refs = ltb-true (length (q .refs)) 5 few; answer = refl }))
+      (λ enough. inr (record { five-refs = ltb-false (length (q .refs)) 5 enough; answer = refl; told = first-found book (needed q) }))
+
+  -- settled exactly where there are five reference days and all needed readings
+  pub record AllThere : Type 0 where
+    pub five-refs : 5 ≤ length (q .refs)
+    pub all-readings : Every (Holds book) (needed q)
+
+  pub settled-where : AllThere → lineOf book q ≡ settled (energyOf book q)
+  unfolding lineOf
+  settled-where there =
+      let clean = ap (λ (f : Fault). byFault f (energyOf book q)) (no-fault book (needed q) (there .all-readings)) in
+      sym (kept (unsettled 20 0) (le-ltb (length (q .refs)) 5 (there .five-refs)) (sym clean))
+
+  by-code : (f : Fault) → FaultTells book (needed q) f → codeOn (byFault f (energyOf book q)) ≡ 0 → Every (Holds book) (needed q)
+  by-code Clean told z = told
+  by-code (Missing p) told z = absurd (omega (arith, z))
+  by-code (TooLarge p) told z = absurd (omega (arith, z))
+
+  pub settled-only : codeOn (lineOf book q) ≡ 0 → AllThere
+  settled-only z = by (lineOf book q) line-why z
+    where
+      by : (a : Answer) → Why a → codeOn a ≡ 0 → AllThere
+      by a (inl few) z = absurd (omega (arith, ap codeOn (few .answer), z))
+      by a (inr enough) z = record {
+        five-refs = enough .five-refs;
+        all-readings = by-code (firstFault book (needed q)) (enough .told) (sym (ap codeOn (enough .answer)) ∙ z);
+      }

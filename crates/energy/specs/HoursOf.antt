@@ -26,13 +26,17 @@ pub record Spans (start end : ℕ) : Type 0 where
   pub few : end - start ≤ 4
   pub in-day : end ≤ 20
 
--- what the private functions ask of hours: they lie in the day, two warm-up hours at least and four event hours at most
+-- what the private functions ask of a run of hours: it lies in the day
+pub record RunIn (from to : ℕ) : Type 0 where
+  pub in-order : from ≤ to
+  pub in-day : to ≤ dayHours
+
+-- and of an event's hours: two warm-up hours at least and four event hours at most
 pub record HoursIn (hours : Hours) : Type 0 where
+  pub warm-in : RunIn (hours .warm) (hours .pause)
   pub two-warm : hours .warm + 2 ≤ hours .pause
-  pub warm-in : hours .pause ≤ dayHours
-  pub in-order : hours .start ≤ hours .end
+  pub event-in : RunIn (hours .start) (hours .end)
   pub few-event : hours .end ≤ hours .start + 4
-  pub event-in : hours .end ≤ dayHours
 
 -- the hours of the event from start to end - 1 on a day
 pub record HoursFor (w : Winter) (day start end : ℕ) (r : Hours) : Type 0 where

@@ -7,3 +7,4 @@ pub mod Search
 pub mod HoursOf
 pub mod Line
 pub mod Parts
+pub mod Ready

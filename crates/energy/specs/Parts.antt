@@ -1,16 +1,13 @@
 -- The rules of an event on the parts of its days, of 24 readings each, and on nothing else of a book.
 -- Assumes nothing.
-use Prim.Native.Nat.{ℕ, _-_, _<_}
-use mathlib.Core.Bool.{Bool, true, false, _&&_}
+use Prim.Native.Nat.{ℕ, _-_}
+use mathlib.Core.Bool.{Bool, true, _&&_}
 use mathlib.Core.List.{List, [], _∷_, _++_, map}
-use mathlib.Core.Path.{_≡_}
-use lib.ListN.{getD}
-use Rattle.book.specs.Part.{noPart, faultOn}
+use Rattle.book.specs.Part.{faultOn}
 use Rattle.book.specs.Readings.{readingAt, firstFault, sumOver}
 use Rattle.book.specs.Values.{isReading, orFault}
 use Rattle.book.specs.declared.values.Fault.{Fault}
 use Rattle.book.specs.declared.values.Fault.the-variants.{Clean}
-use Rattle.calendar.specs.declared.answers.Winter.{Winter}
 use Rattle.laws.specs.Answer.{Answer}
 use Rattle.energy.specs.HoursOf.{warmRun, eventRun}
 use Rattle.energy.specs.Line.{byFault}
@@ -50,14 +47,3 @@ partsEnergy hours event parts =
 unfoldable pub partsLine : ℕ → List ℕ → Hours → List ℕ → List (List ℕ) → Answer
 partsLine day refs hours event parts =
     byFault (partsFault (warmRun hours ++ eventRun hours) Clean (day ∷ refs) (event ∷ parts)) (partsEnergy hours event parts)
-
--- what the private functions ask: days whose places are small numbers
-
-pub record Days (day : ℕ) (refs : List ℕ) : Type 0 where
-  pub day-in : day < 152
-  pub refs-in : (k : ℕ) → k < 5 → getD refs k 0 < 152
-
--- the event day and its reference days have their parts in a winter's book of n numbers
-pub record SixDays (w : Winter) (n day : ℕ) (refs : List ℕ) : Type 0 where
-  pub day-there : noPart w n day ≡ false
-  pub refs-there : (k : ℕ) → k < 5 → noPart w n (getD refs k 0) ≡ false

@@ -4,15 +4,16 @@ ghost use mathlib.Core.Bool.{false};
 ghost use mathlib.Core.List.{[], _∷_};
 ghost use lib.ListN.{length};
 ghost use Rattle.book.specs.Part.{noPart, PartOf};
-ghost use Rattle.calendar.specs.Weekdays.{weekend};
 ghost use Rattle.energy.specs.Asked.{askedBy};
-ghost use Rattle.energy.specs.Search.{OnDay};
-ghost use Rattle.energy.specs.HoursOf.{Spans, HoursIn, askedIn};
+ghost use Rattle.energy.specs.HoursOf.{HoursIn, askedIn};
 ghost use Rattle.energy.specs.Line.{linePaper, byFault, lineOf, eventAnswer};
+ghost use Rattle.energy.specs.Parts.{partsEnergy, partsLine};
+ghost use Rattle.energy.specs.Ready.{DaysReady, PartsReady, EventReady};
 ghost use Rattle.energy.specs.ReferenceDays.{freeIn};
-ghost use Rattle.energy.specs.Parts.{Days, SixDays, partsEnergy, partsLine};
+ghost use Rattle.energy.specs.Search.{OnDay};
 use crate::hours::Hours;
 use crate::hours::hours_of;
+use crate::needed::all_readings;
 use crate::needed::needed_fault;
 use crate::reference_days::nearest;
 use crate::spared::spared;
@@ -70,7 +71,8 @@ fn line_of(fault: Fault, energy: u64) -> Line
     }
 }
 
-// The line of an event by the parts of its day and of its five reference days.
+// The line of an event by the parts of its day and of its five reference days. Nearly always all are readings, which a walk from hour to
+// hour tells sooner than one from day to day.
 fn line_of_parts(
     day: u32,
     refs: [u32; 5],
@@ -82,12 +84,18 @@ fn line_of_parts(
     r3: &[u32],
     r4: &[u32],
 ) -> Line
-    requires { ⌜ Days day refs × HoursIn hours ⌝ }
+    requires { ⌜ DaysReady day refs hours ⌝ }
     ensures { λ r. ⌜ linePaper r ≡ partsLine day refs hours (now (event .entry))
         (now (r0 .entry) ∷ now (r1 .entry) ∷ now (r2 .entry) ∷ now (r3 .entry) ∷ now (r4 .entry) ∷ []) ⌝ }
 {
+    let spared = energy(hours, event, r0, r1, r2, r3, r4);
+    let warm = all_readings(event, r0, r1, r2, r3, r4, hours.warm, hours.pause);
+    let own = all_readings(event, r0, r1, r2, r3, r4, hours.start, hours.end);
+    if warm & own {
+        return Line::Settled(spared);
+    }
     let fault = needed_fault(day, refs, hours, event, r0, r1, r2, r3, r4);
-    line_of(fault, energy(hours, event, r0, r1, r2, r3, r4))
+    line_of(fault, spared)
 }
 
 // The part of a day that the book has, cut to its 24 readings: then the compiler knows how many there are, and tests for none.
@@ -101,7 +109,7 @@ fn part_of(w: Winter, book: &[u32], day: u32) -> &[u32]
 
 // The line of an event whose reference days are known: each of the six days is fetched once.
 fn line_of_days(w: Winter, book: &[u32], day: u32, refs: [u32; 5], hours: Hours) -> Line
-    requires { ⌜ SixDays w (length (now book)) day refs × HoursIn hours ⌝ }
+    requires { ⌜ PartsReady w (length (now book)) day refs hours ⌝ }
     ensures { λ r. ⌜ linePaper r ≡ lineOf (now (book .entry)) (askedIn day hours refs) ⌝ }
 {
     let event = part_of(w, book, day);
@@ -115,7 +123,7 @@ fn line_of_days(w: Winter, book: &[u32], day: u32, refs: [u32; 5], hours: Hours)
 
 // The line of an event whose day is in the book and whose hours lie in a band: 20 comes before 21 and 22.
 fn line_in(w: Winter, kind: Kind, book: &[u32], masks: &[u32; 152], n: Notice) -> Line
-    requires { ⌜ (noPart w (length (now book)) (n .day) ≡ false) × (kind .weekend ≡ weekend w (n .day)) × Spans (n .start) (n .end) ⌝ }
+    requires { ⌜ EventReady w (length (now book)) kind n ⌝ }
     ensures { λ r. ⌜ linePaper r ≡ lineOf (now (book .entry)) (askedBy w (freeIn (now (masks .entry))) n) ⌝ }
 {
     let found = nearest(w, kind, masks, n.day);

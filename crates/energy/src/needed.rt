@@ -1,13 +1,13 @@
 // The first fault among the readings that an event needs.
 ghost use mathlib.Core.Path.{_≡_};
 ghost use mathlib.Core.List.{[], _∷_, _++_};
-ghost use Prim.Native.Nat.{_<_};
 ghost use Rattle.book.specs.Part.{faultOn};
-ghost use Rattle.book.specs.Places.{InDay, run};
+ghost use Rattle.book.specs.Places.{run};
 ghost use Rattle.book.specs.Readings.{firstFault};
-ghost use Rattle.book.specs.Values.{AtPlace, orFault};
-ghost use Rattle.energy.specs.HoursOf.{HoursIn, warmRun, eventRun};
-ghost use Rattle.energy.specs.Parts.{Days, highestAt, allReadings, partsFault};
+ghost use Rattle.book.specs.Values.{orFault};
+ghost use Rattle.energy.specs.HoursOf.{warmRun, eventRun};
+ghost use Rattle.energy.specs.Parts.{highestAt, allReadings, partsFault};
+ghost use Rattle.energy.specs.Ready.{HourTold, DayReady, DaysReady};
 use crate::hours::Hours;
 use crate::sums::five_readings;
 use crate::trimmed::larger;
@@ -24,7 +24,8 @@ fn highest_at(
     r4: &[u32],
     hour: u32,
 ) -> u32
-    ensures { λ r. ⌜ r ≡ highestAt (now (event .entry) ∷ now (r0 .entry) ∷ now (r1 .entry) ∷ now (r2 .entry) ∷ now (r3 .entry) ∷ now (r4 .entry) ∷ []) hour ⌝ }
+    ensures { λ r. ⌜ r ≡ highestAt
+        (now (event .entry) ∷ now (r0 .entry) ∷ now (r1 .entry) ∷ now (r2 .entry) ∷ now (r3 .entry) ∷ now (r4 .entry) ∷ []) hour ⌝ }
 {
     let five = five_readings(r0, r1, r2, r3, r4, hour);
     let high = largest(five[0], five[1], five[2], five[3], five[4]);
@@ -32,7 +33,7 @@ fn highest_at(
 }
 
 // Whether the six days have readings at all hours from one up to another.
-fn all_readings(
+pub(crate) fn all_readings(
     event: &[u32],
     r0: &[u32],
     r1: &[u32],
@@ -42,7 +43,8 @@ fn all_readings(
     from: u32,
     to: u32,
 ) -> bool
-    ensures { λ r. ⌜ r ≡ allReadings (now (event .entry) ∷ now (r0 .entry) ∷ now (r1 .entry) ∷ now (r2 .entry) ∷ now (r3 .entry) ∷ now (r4 .entry) ∷ []) (run from to) ⌝ }
+    ensures { λ r. ⌜ r ≡ allReadings
+        (now (event .entry) ∷ now (r0 .entry) ∷ now (r1 .entry) ∷ now (r2 .entry) ∷ now (r3 .entry) ∷ now (r4 .entry) ∷ []) (run from to) ⌝ }
 {
     let mut hour = from;
     while hour < to {
@@ -56,7 +58,7 @@ fn all_readings(
 
 // A fault at an hour of a day's part, told at its place in the book.
 fn placed(fault: Fault, day: u32) -> Fault
-    requires { ⌜ (day < 152) × AtPlace InDay fault ⌝ }
+    requires { ⌜ HourTold day fault ⌝ }
     ensures { λ r. ⌜ r ≡ faultOn day fault ⌝ }
 {
     match fault {
@@ -68,7 +70,7 @@ fn placed(fault: Fault, day: u32) -> Fault
 
 // A fault, or where there is none the first among a day's readings of the needed hours.
 fn fault_after(fault: Fault, part: &[u32], day: u32, hours: Hours) -> Fault
-    requires { ⌜ (day < 152) × HoursIn hours ⌝ }
+    requires { ⌜ DayReady day hours ⌝ }
     ensures { λ r. ⌜ r ≡ orFault fault (faultOn day (firstFault (now (part .entry)) (warmRun hours ++ eventRun hours))) ⌝ }
 {
     if !book::is_clean(fault) {
@@ -83,30 +85,6 @@ fn fault_after(fault: Fault, part: &[u32], day: u32, hours: Hours) -> Fault
 }
 
 // The first fault among all needed readings: the event day's, and then those of the five reference days, nearest first.
-fn fault_by_days(
-    day: u32,
-    refs: [u32; 5],
-    hours: Hours,
-    event: &[u32],
-    r0: &[u32],
-    r1: &[u32],
-    r2: &[u32],
-    r3: &[u32],
-    r4: &[u32],
-) -> Fault
-    requires { ⌜ Days day refs × HoursIn hours ⌝ }
-    ensures { λ r. ⌜ r ≡ partsFault (warmRun hours ++ eventRun hours) Fault.Clean (day ∷ refs)
-        (now (event .entry) ∷ now (r0 .entry) ∷ now (r1 .entry) ∷ now (r2 .entry) ∷ now (r3 .entry) ∷ now (r4 .entry) ∷ []) ⌝ }
-{
-    let f = fault_after(Fault::Clean, event, day, hours);
-    let f0 = fault_after(f, r0, refs[0], hours);
-    let f1 = fault_after(f0, r1, refs[1], hours);
-    let f2 = fault_after(f1, r2, refs[2], hours);
-    let f3 = fault_after(f2, r3, refs[3], hours);
-    fault_after(f3, r4, refs[4], hours)
-}
-
-// The same: nearly always all are readings, which a walk from hour to hour tells sooner.
 pub(crate) fn needed_fault(
     day: u32,
     refs: [u32; 5],
@@ -118,14 +96,14 @@ pub(crate) fn needed_fault(
     r3: &[u32],
     r4: &[u32],
 ) -> Fault
-    requires { ⌜ Days day refs × HoursIn hours ⌝ }
+    requires { ⌜ DaysReady day refs hours ⌝ }
     ensures { λ r. ⌜ r ≡ partsFault (warmRun hours ++ eventRun hours) Fault.Clean (day ∷ refs)
         (now (event .entry) ∷ now (r0 .entry) ∷ now (r1 .entry) ∷ now (r2 .entry) ∷ now (r3 .entry) ∷ now (r4 .entry) ∷ []) ⌝ }
 {
-    let warm = all_readings(event, r0, r1, r2, r3, r4, hours.warm, hours.pause);
-    let own = all_readings(event, r0, r1, r2, r3, r4, hours.start, hours.end);
-    if warm & own {
-        return Fault::Clean;
-    }
-    fault_by_days(day, refs, hours, event, r0, r1, r2, r3, r4)
+    let f = fault_after(Fault::Clean, event, day, hours);
+    let f0 = fault_after(f, r0, refs[0], hours);
+    let f1 = fault_after(f0, r1, refs[1], hours);
+    let f2 = fault_after(f1, r2, refs[2], hours);
+    let f3 = fault_after(f2, r3, refs[3], hours);
+    fault_after(f3, r4, refs[4], hours)
 }

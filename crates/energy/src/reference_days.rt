@@ -1,9 +1,8 @@
 // The reference days of an event.
 ghost use mathlib.Core.Path.{_≡_};
 ghost use Prim.Native.Nat.{_<_};
-ghost use Rattle.calendar.specs.Weekdays.{weekend};
 ghost use Rattle.energy.specs.ReferenceDays.{freeIn, referenceDays};
-ghost use Rattle.energy.specs.Search.{Finds, pastEvents, freeServes, BookDay};
+ghost use Rattle.energy.specs.Search.{Finds, pastEvents, freeServes, BookDay, OnDay};
 use calendar::DayKind;
 use calendar::Kind;
 use calendar::Winter;
@@ -43,7 +42,7 @@ fn past_events(masks: &[u32; 152], day: u32) -> u32
 
 // The five nearest days before the event day that serve, or as many as there are. It stops at the fifth.
 pub(crate) fn nearest(w: Winter, event: Kind, masks: &[u32; 152], day: u32) -> Refs
-    requires { ⌜ BookDay w day × (event .weekend ≡ weekend w day) ⌝ }
+    requires { ⌜ OnDay w day event ⌝ }
     ensures { λ r. ⌜ Finds (referenceDays w (freeIn (now (masks .entry))) day) r ⌝ }
 {
     let mut days = [0u32; 5];

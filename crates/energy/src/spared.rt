@@ -1,13 +1,14 @@
 // From R, B, A and C to the spared energy in eighteenths of a Wh. What is added and what is taken away are two sums, so that nothing
 // signed is held.
 ghost use mathlib.Core.Path.{_≡_};
-ghost use Prim.Native.Nat.{_*_, _-_, _^_, _≤_, _<_};
+ghost use Prim.Native.Nat.{_-_};
+ghost use Rattle.energy.specs.Ready.{SumsFit, FactorsFit, IsProduct};
 ghost use Rattle.energy.specs.Spared.{sparedOf};
 
 // x times k, both small enough that nothing wraps.
 fn scaled(x: u64, k: u64) -> u64
-    requires { ⌜ (x < 2 ^ 44) × (k ≤ 24) ⌝ }
-    ensures { λ r. ⌜ (r ≡ x * k) × (r < 2 ^ 49) ⌝ }
+    requires { ⌜ FactorsFit x k ⌝ }
+    ensures { λ r. ⌜ IsProduct x k r ⌝ }
 {
     x * k
 }
@@ -24,7 +25,7 @@ fn floored_difference(a: u64, b: u64) -> u64
 
 // The spared energy. The limit stands only above a trial of 40 kWh, and 3A - B is above 2B exactly when A is above B.
 pub(crate) fn spared(h: u64, w: u64, r: u64, b: u64, a: u64, c: u64) -> u64
-    requires { ⌜ (h ≤ 4) × (2 ≤ w) × (r < 2 ^ 40) × (b < 2 ^ 40) × (a < 2 ^ 40) × (c < 2 ^ 40) ⌝ }
+    requires { ⌜ SumsFit h w r b a c ⌝ }
     ensures { λ e. ⌜ e ≡ sparedOf h w r b a c ⌝ }
 {
     let k = 6 * h / w;

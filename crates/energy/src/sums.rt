@@ -1,11 +1,10 @@
 // The sums of T over hours: R and B.
 ghost use mathlib.Core.Path.{_≡_};
 ghost use mathlib.Core.List.{List, [], _∷_, map};
-ghost use Prim.Native.Nat.{ℕ, _^_, _<_, _≤_};
-ghost use Rattle.book.specs.Length.{dayHours};
-ghost use Rattle.book.specs.Places.{run};
-ghost use Rattle.book.specs.Readings.{readingAt, sumOver};
-ghost use Rattle.energy.specs.Parts.{trimmedIn};
+ghost use Prim.Native.Nat.{ℕ};
+ghost use Rattle.book.specs.Readings.{readingAt};
+ghost use Rattle.energy.specs.HoursOf.{RunIn};
+ghost use Rattle.energy.specs.Ready.{TrimmedSum};
 use crate::trimmed::trimmed_of;
 
 // The five reference readings of an hour.
@@ -38,9 +37,9 @@ pub(crate) fn trimmed_sum(
     from: u32,
     to: u32,
 ) -> u64
-    requires { ⌜ (from ≤ to) × (to ≤ dayHours) ⌝ }
-    ensures { λ r. ⌜ (r ≡ sumOver (trimmedIn
-        (now (r0 .entry) ∷ now (r1 .entry) ∷ now (r2 .entry) ∷ now (r3 .entry) ∷ now (r4 .entry) ∷ [])) (run from to)) × (r < 2 ^ 40) ⌝ }
+    requires { ⌜ RunIn from to ⌝ }
+    ensures { λ r. ⌜ TrimmedSum
+        (now (r0 .entry) ∷ now (r1 .entry) ∷ now (r2 .entry) ∷ now (r3 .entry) ∷ now (r4 .entry) ∷ []) from to r ⌝ }
 {
     let mut sum: u64 = 0;
     let mut hour = from;

@@ -1,8 +1,9 @@
 // T: the sum of an hour's five reference readings less one smallest and less one largest.
 ghost use mathlib.Core.Path.{_≡_};
 ghost use mathlib.Core.List.{[], _∷_};
-ghost use Prim.Native.Nat.{_^_, _<_, min, max};
-ghost use Rattle.energy.specs.Trimmed.{sumOf, smallestOf, largestOf, trimmedOf};
+ghost use Prim.Native.Nat.{min, max};
+ghost use Rattle.energy.specs.Ready.{IsTrimmed};
+ghost use Rattle.energy.specs.Trimmed.{sumOf, smallestOf, largestOf};
 
 // The smaller of two numbers.
 fn smaller(a: u32, b: u32) -> u32
@@ -41,7 +42,7 @@ fn total(a: u32, b: u32, c: u32, d: u32, e: u32) -> u64
 
 // One value is dropped at each end, at each hour by itself, and no whole day.
 pub(crate) fn trimmed_of(five: [u32; 5]) -> u64
-    ensures { λ r. ⌜ (r ≡ trimmedOf five) × (r < 2 ^ 35) ⌝ }
+    ensures { λ r. ⌜ IsTrimmed five r ⌝ }
 {
     let low = smallest(five[0], five[1], five[2], five[3], five[4]);
     let high = largest(five[0], five[1], five[2], five[3], five[4]);

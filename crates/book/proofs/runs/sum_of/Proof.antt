@@ -1,7 +1,8 @@
 -- `sum_of` adds up a run of values.
 -- The invariant: the sum and the values from the next index on make the whole, and each index added less than 2^32.
 -- Assumes nothing.
-use Prim.Native.Nat.{_+_, _-_, _*_, _^_, _≤_, max}
+use Prim.Native.Nat.{ℕ, _+_, _-_, _*_, _^_, _≤_, max}
+use mathlib.Core.List.{List}
 use mathlib.Core.Path.{_≡_}
 use native.Mathlib.Omega.{arith}
 use Rattle.book.specs.Places.{run}
@@ -11,10 +12,14 @@ use borrow.Author.Needs.{needs}
 use Rattle.book.proofs.runs.sum_of.Statement.{statement}
 use Rattle.book.proofs.runs.sum_of.Tie as tie
 
+record SoFar (values : List ℕ) (from to end sum at : ℕ) : Type 0 where
+  begun : from ≤ at
+  within : at ≤ max from end
+  small : sum ≤ (at - from) * 2 ^ 32
+  rest : sum + sumOver (readingAt values) (run at to) ≡ sumOver (readingAt values) (run from to)
+
 abbrev Inv-loop : tie.InvT-loop
-Inv-loop values from to end sum₀ at₀ sum at =
-    (from ≤ at) × (at ≤ max from end) × (sum ≤ (at - from) * 2 ^ 32)
-    × (sum + sumOver (readingAt values) (run at to) ≡ sumOver (readingAt values) (run from to))
+Inv-loop values from to end sum₀ at₀ sum at = SoFar values from to end sum at
 
 abbrev μ-loop : tie.MeasureT-loop
 μ-loop values from to end sum₀ at₀ sum at = end - at
@@ -42,9 +47,16 @@ loop-less c = search needs
 
 loop-again : tie.Need-loop-again Inv-loop μ-loop
 loop-again c =
-    let turn = c .before .before in
-    let called = turn .before .before .before in
-    omega (arith, sum-more (readingAt (called .args .values .now)) (turn .loop .at) (called .args .to) (omega arith))
+    let at-loop = c .before .before in
+    let turn = at-loop .loop in
+    let called = at-loop .before .before .before in
+    let more = sum-more (readingAt (called .args .values .now)) (turn .at) (called .args .to) (omega arith) in
+    record {
+      begun = omega (arith, turn .inv .begun);
+      within = omega (arith, c .before .loop-test .taken);
+      small = omega (arith, turn .inv .begun, turn .inv .small);
+      rest = omega (arith, turn .inv .rest);
+    }
 
 returns : tie.Need-returns Inv-loop μ-loop
 returns c =

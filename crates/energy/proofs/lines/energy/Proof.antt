@@ -35,9 +35,11 @@ spared-requires c κs = search needs
 returns : tie.Need-returns
 unfolding partsEnergy
 returns c =
-    let sums = c .before .before .before in
-    let trims = sums .before .before in
-    rw (← sums .sum-of2 .ensures .is, ← sums .before .sum-of .ensures .is, ← trims .trimmed-sum2 .ensures .0, ← trims .before .trimmed-sum .ensures .0)
+    let sum-c = c .before .before .before in
+    let sum-a = sum-c .before in
+    let sum-b = sum-a .before in
+    let sum-r = sum-b .before in
+    rw (← sum-c .sum-of2 .ensures .is, ← sum-a .sum-of .ensures .is, ← sum-b .trimmed-sum2 .ensures .is, ← sum-r .trimmed-sum .ensures .is)
     (c .spared .ensures)
 
 pub energy-spec : {M : Type 1} → statement M

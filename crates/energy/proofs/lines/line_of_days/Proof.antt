@@ -3,10 +3,14 @@
 use mathlib.Core.Path.{_≡_}
 use native.Mathlib.Omega.{arith}
 use lib.ListN.{length}
-use Rattle.energy.proofs.BookParts.{days-in, book-line}
+use Rattle.energy.proofs.BookParts.{days-ready, book-line}
 use borrow.Author.Needs.{needs}
 use Rattle.energy.proofs.lines.line_of_days.Statement.{statement}
 use Rattle.energy.proofs.lines.line_of_days.Tie as tie
+
+-- the call, from where the event day's part is fetched
+abbrev called : tie.After-part-of → tie.Start
+called event = event .before .before
 
 part-of-requires : tie.Need-part-of-requires
 part-of-requires c κs = search needs
@@ -16,45 +20,46 @@ array-read-part-of c = search needs
 
 part-of-requires-2 : tie.Need-part-of-requires-2
 part-of-requires-2 c κs =
-    let called = c .before .before in
-    called .pre .0 .refs-there 0 (omega arith)
+    let asked = called c .pre in
+    asked .refs-there 0 (omega arith)
 
 array-read-part-of-2 : tie.Need-array-read-part-of-2
 array-read-part-of-2 c = search needs
 
 part-of-requires-3 : tie.Need-part-of-requires-3
 part-of-requires-3 c κs =
-    let called = c .before .before .before in
-    called .pre .0 .refs-there 1 (omega arith)
+    let asked = called (c .before) .pre in
+    asked .refs-there 1 (omega arith)
 
 array-read-part-of-3 : tie.Need-array-read-part-of-3
 array-read-part-of-3 c = search needs
 
 part-of-requires-4 : tie.Need-part-of-requires-4
 part-of-requires-4 c κs =
-    let called = c .before .before .before .before in
-    called .pre .0 .refs-there 2 (omega arith)
+    let asked = called (c .before .before) .pre in
+    asked .refs-there 2 (omega arith)
 
 array-read-part-of-4 : tie.Need-array-read-part-of-4
 array-read-part-of-4 c = search needs
 
 part-of-requires-5 : tie.Need-part-of-requires-5
 part-of-requires-5 c κs =
-    let called = c .before .before .before .before .before in
-    called .pre .0 .refs-there 3 (omega arith)
+    let asked = called (c .before .before .before) .pre in
+    asked .refs-there 3 (omega arith)
 
 array-read-part-of-5 : tie.Need-array-read-part-of-5
 array-read-part-of-5 c = search needs
 
 part-of-requires-6 : tie.Need-part-of-requires-6
 part-of-requires-6 c κs =
-    let called = c .before .before .before .before .before .before in
-    called .pre .0 .refs-there 4 (omega arith)
+    let asked = called (c .before .before .before .before) .pre in
+    asked .refs-there 4 (omega arith)
 
 line-of-parts-requires : tie.Need-line-of-parts-requires
 line-of-parts-requires c κs =
-    let called = c .before .before .before .before .before .before .before in
-    (days-in _ _ _ _ (called .pre .0), called .pre .1)
+    let third = c .before in
+    let event = third .before .before .before .before in
+    days-ready _ _ _ _ _ (called event .pre)
 
 five-long : (c : tie.Start) → length (c .args .t4) ≡ 5
 five-long c = search needs
@@ -67,10 +72,10 @@ returns c =
     let first = second .before in
     let nearest = first .before in
     let event = nearest .before in
-    let called = event .before .before in
-    book-line (called .args .book .now) (called .args .day) (called .args .t4)
+    let start = called event in
+    book-line (start .args .book .now) (start .args .day) (start .args .t4) (start .args .hours) (five-long start) (start .pre .hours-in)
     (event .part-of .ensures) (nearest .part-of2 .ensures) (first .part-of3 .ensures) (second .part-of4 .ensures) (third .part-of5 .ensures)
-    (fourth .part-of6 .ensures) (five-long called) (called .args .hours) (called .pre .1) (c .line-of-parts .ensures)
+    (fourth .part-of6 .ensures) (c .line-of-parts .ensures)
 
 pub line-of-days-spec : {M : Type 1} → statement M
 line-of-days-spec =

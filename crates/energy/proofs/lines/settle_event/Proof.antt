@@ -17,7 +17,9 @@ enum-known-kind : tie.Need-enum-known-kind
 enum-known-kind c = search needs
 
 settle-on-requires : tie.Need-settle-on-requires
-settle-on-requires c κs = told-day _ _ _ _ (c .before .kind .given .1) (c .before .before .before .kind-of .ensures)
+settle-on-requires c κs =
+    let told = c .before in
+    told-day _ _ _ _ (told .kind .given .1) (told .before .before .kind-of .ensures)
 
 enum-told : tie.Need-enum-told
 enum-told c = search needs
@@ -31,23 +33,27 @@ wrong-length-requires c κs = search needs
 returns : tie.Need-returns
 unfolding eventAnswer
 returns c =
-    let past = c .before .before in
+    let length = c .before in
+    let past = length .before in
     let told = told-past _ _ _ (past .enum-told2 .given .1) (past .before .before .kind-of .ensures) in
-    kept _ (told .0) (refused _ _ (found (c .before .wrong-length .ensures) (c .if1 .taken)))
+    kept _ (told .right) (refused _ _ (found (length .wrong-length .ensures) (c .if1 .taken)))
 
 returns-2 : tie.Need-returns-2
 returns-2 c = search needs
 
 returns-3 : tie.Need-returns-3
 unfolding eventAnswer
-returns-3 c = refused _ _ (wrong-known _ _ _ (c .enum-told .given .1) (c .before .before .kind-of .ensures))
+returns-3 c =
+    let asked = c .before .before in
+    refused _ _ (wrong-known _ _ _ (c .enum-told .given .1) (asked .kind-of .ensures))
 
 returns-4 : tie.Need-returns-4
 unfolding eventAnswer
 returns-4 c =
-    let past = c .before .before in
+    let length = c .before in
+    let past = length .before in
     let told = told-past _ _ _ (past .enum-told2 .given .1) (past .before .before .kind-of .ensures) in
-    kept _ (told .0) (kept _ (found (c .before .wrong-length .ensures) (c .if1 .left)) (refused _ _ (told .1)))
+    kept _ (told .right) (kept _ (found (length .wrong-length .ensures) (c .if1 .left)) (refused _ _ (told .no-period)))
 
 pub settle-event-spec : {M : Type 1} → statement M
 settle-event-spec =

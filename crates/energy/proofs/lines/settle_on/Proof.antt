@@ -15,14 +15,20 @@ wrong-length-requires c κs = search needs
 
 returns : tie.Need-returns
 unfolding eventAnswer
-returns c = kept _ (c .before .before .before .pre .day .right) (refused _ _ (found (c .before .wrong-length .ensures) (c .if1 .taken)))
+returns c =
+    let length = c .before in
+    let day = length .before .before .pre in
+    kept _ (day .day .right) (refused _ _ (found (length .wrong-length .ensures) (c .if1 .taken)))
 
 returns-2 : tie.Need-returns-2
 unfolding eventAnswer
 returns-2 c =
-    let book = c .before .before in
-    let day = book .before .before .before .pre in
-    kept _ (day .day .right) (kept _ (found (book .before .wrong-length .ensures) (book .if1 .left)) (refused _ _ (rw (← day .period) (c .if2 .taken))))
+    let whole = c .before .before in
+    let length = whole .before in
+    let day = length .before .before .pre in
+    kept _ (day .day .right)
+    (kept _ (found (length .wrong-length .ensures) (whole .if1 .left))
+    (refused _ _ (rw (← day .period) (c .if2 .taken))))
 
 figures-requires : tie.Need-figures-requires
 figures-requires c κs = search needs
@@ -33,35 +39,44 @@ bad-hours-requires c κs = search needs
 returns-3 : tie.Need-returns-3
 unfolding eventAnswer
 returns-3 c =
-    let period = c .before .before .before in
-    let book = period .before .before in
-    let day = book .before .before .before .pre in
+    let hours = c .before in
+    let figures = hours .before in
+    let period = figures .before in
+    let whole = period .before .before in
+    let length = whole .before in
+    let day = length .before .before .pre in
     kept _ (day .day .right)
-    (kept _ (found (book .before .wrong-length .ensures) (book .if1 .left))
+    (kept _ (found (length .wrong-length .ensures) (whole .if1 .left))
     (kept _ (rw (← day .period) (period .if2 .left))
-    (refused _ _ (rw (← c .before .before .figures .ensures) (found (c .before .bad-hours .ensures) (c .if3 .taken))))))
+    (refused _ _ (rw (← figures .figures .ensures) (found (hours .bad-hours .ensures) (c .if3 .taken))))))
 
 line-in-requires : tie.Need-line-in-requires
 line-in-requires c κs =
-    let book = c .before .before .before .before .before in
-    let day = book .before .before .before .pre in
-    let whole = found (book .before .wrong-length .ensures) (book .if1 .left) in (
-      part-there _ _ _ (day .day .right) whole (day .day .there),
-      day .week,
-      in-band _ _ (c .before .before .figures .ensures) (found (c .before .bad-hours .ensures) (c .if3 .left)),
-    )
+    let hours = c .before in
+    let figures = hours .before in
+    let whole = figures .before .before .before in
+    let length = whole .before in
+    let day = length .before .before .pre in
+    record {
+      on-day = day;
+      day-there = part-there _ _ _ (day .day .right) (found (length .wrong-length .ensures) (whole .if1 .left)) (day .day .there);
+      spans = in-band _ _ (figures .figures .ensures) (found (hours .bad-hours .ensures) (c .if3 .left));
+    }
 
 returns-4 : tie.Need-returns-4
 unfolding eventAnswer
 returns-4 c =
-    let hours = c .before in
-    let period = hours .before .before .before in
-    let book = period .before .before in
-    let day = book .before .before .before .pre in
+    let in-hours = c .before in
+    let hours = in-hours .before in
+    let figures = hours .before in
+    let period = figures .before in
+    let whole = period .before .before in
+    let length = whole .before in
+    let day = length .before .before .pre in
     kept _ (day .day .right)
-    (kept _ (found (book .before .wrong-length .ensures) (book .if1 .left))
+    (kept _ (found (length .wrong-length .ensures) (whole .if1 .left))
     (kept _ (rw (← day .period) (period .if2 .left))
-    (kept _ (rw (← hours .before .before .figures .ensures) (found (hours .before .bad-hours .ensures) (hours .if3 .left))) (c .line-in .ensures))))
+    (kept _ (rw (← figures .figures .ensures) (found (hours .bad-hours .ensures) (in-hours .if3 .left))) (c .line-in .ensures))))
 
 pub settle-on-spec : {M : Type 1} → statement M
 settle-on-spec =

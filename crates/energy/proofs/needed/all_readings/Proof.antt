@@ -8,7 +8,7 @@ use borrow.Author.Tests.{not-true, not-false}
 use Rattle.book.specs.Places.{run}
 use Rattle.laws.proofs.Guards.{found}
 use Rattle.energy.specs.Parts.{allReadings}
-use Rattle.energy.proofs.PartLaws.{one-reading, one-not, no-hour}
+use Rattle.energy.proofs.AllReadings.{one-reading, one-not, no-hour}
 use borrow.Author.Needs.{needs}
 use Rattle.energy.proofs.needed.all_readings.Statement.{statement}
 use Rattle.energy.proofs.needed.all_readings.Tie as tie
@@ -34,7 +34,8 @@ returns c =
     let highest = c .before .before in
     let in-loop = highest .before in
     let turn = in-loop .before .loop in
-    one-not _ (turn .hour) _ (in-loop .loop-test .taken) _ (highest .highest-at .ensures) (found (c .before .is-reading .ensures) (not-true _ (c .if1 .taken)))
+    one-not _ (turn .hour) _ (in-loop .loop-test .taken) _ (highest .highest-at .ensures)
+    (found (c .before .is-reading .ensures) (not-true _ (c .if1 .taken)))
     ∙ turn .inv
 
 add-hour : tie.Need-add-hour Inv-loop μ-loop
@@ -48,7 +49,8 @@ loop-again c =
     let highest = c .before .before in
     let in-loop = highest .before in
     let turn = in-loop .before .loop in
-    one-reading _ (turn .hour) _ (in-loop .loop-test .taken) _ (highest .highest-at .ensures) (found (c .before .is-reading .ensures) (not-false _ (c .if1 .left)))
+    one-reading _ (turn .hour) _ (in-loop .loop-test .taken) _ (highest .highest-at .ensures)
+    (found (c .before .is-reading .ensures) (not-false _ (c .if1 .left)))
     ∙ turn .inv
 
 returns-2 : tie.Need-returns-2 Inv-loop μ-loop

@@ -6,10 +6,14 @@ use borrow.Author.Tests.{not-true, not-false}
 use Rattle.book.proofs.FaultLaws.{or-fault}
 use Rattle.laws.proofs.Guards.{found}
 use Rattle.energy.proofs.HourLaws.{warm-told, event-told}
-use Rattle.energy.proofs.PartLaws.{first-run, second-run}
+use Rattle.energy.proofs.DayFaults.{first-run, second-run}
 use borrow.Author.Needs.{needs}
 use Rattle.energy.proofs.needed.fault_after.Statement.{statement}
 use Rattle.energy.proofs.needed.fault_after.Tie as tie
+
+-- the call, from where the warm-up hours are looked at
+abbrev called : tie.After-first-fault → tie.Start
+called warm = warm .before .before .before .before
 
 is-clean-requires : tie.Need-is-clean-requires
 is-clean-requires c κs = search needs
@@ -26,8 +30,8 @@ is-clean-requires-2 c κs = search needs
 placed-requires : tie.Need-placed-requires
 placed-requires c κs =
     let warm = c .before .before in
-    let called = warm .before .before .before .before in
-    (called .pre .0, warm-told _ _ (called .pre .1) (warm .first-fault .ensures))
+    let asked = called warm .pre in
+    record { day-fits = asked .day-fits; in-day = warm-told _ _ (asked .hours-in) (warm .first-fault .ensures) }
 
 returns-2 : tie.Need-returns-2
 returns-2 c =
@@ -35,15 +39,16 @@ returns-2 c =
     let asked = warm .before .before in
     let none = found (asked .is-clean .ensures) (not-false _ (warm .before .if1 .left)) in
     let faulty = found (c .before .before .is-clean2 .ensures) (not-true _ (c .before .if2 .taken)) in
-    c .placed .ensures ∙ first-run _ _ _ _ (asked .before .before .args .fault) _ none (warm .first-fault .ensures) faulty
+    c .placed .ensures ∙ first-run _ _ _ _ (called warm .args .fault) _ none (warm .first-fault .ensures) faulty
 
 first-fault-requires-2 : tie.Need-first-fault-requires-2
 first-fault-requires-2 c κs = search needs
 
 placed-requires-2 : tie.Need-placed-requires-2
 placed-requires-2 c κs =
-    let called = c .before .before .before .before .before .before .before in
-    (called .pre .0, event-told _ _ (called .pre .1) (c .first-fault2 .ensures))
+    let warm = c .before .before .before in
+    let asked = called warm .pre in
+    record { day-fits = asked .day-fits; in-day = event-told _ _ (asked .hours-in) (c .first-fault2 .ensures) }
 
 returns-3 : tie.Need-returns-3
 returns-3 c =
@@ -53,7 +58,7 @@ returns-3 c =
     let none = found (asked .is-clean .ensures) (not-false _ (warm .before .if1 .left)) in
     let clean = found (event .before .before .is-clean2 .ensures) (not-false _ (event .before .if2 .left)) in
     c .placed2 .ensures
-    ∙ second-run _ _ _ _ (asked .before .before .args .fault) _ none (warm .first-fault .ensures) _ clean (event .first-fault2 .ensures)
+    ∙ second-run _ _ _ _ (called warm .args .fault) _ none (warm .first-fault .ensures) _ clean (event .first-fault2 .ensures)
 
 pub fault-after-spec : {M : Type 1} → statement M
 fault-after-spec =

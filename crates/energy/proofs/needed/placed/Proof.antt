@@ -18,7 +18,7 @@ cast-t7 : tie.Need-cast-t7
 cast-t7 c =
     let missing = c .before .before in
     let called = missing .before .before in
-    let in-day = rw (missing .fault .given .1) at (called .pre .1) in
+    let hour-in = rw (missing .fault .given .1) at (called .pre .in-day) in
     omega arith
 
 enum-known-fault-2 : tie.Need-enum-known-fault-2
@@ -31,7 +31,7 @@ cast-t9 : tie.Need-cast-t9
 cast-t9 c =
     let too-large = c .before .before in
     let called = too-large .before .before in
-    let in-day = rw (too-large .fault2 .given .1) at (called .pre .1) in
+    let hour-in = rw (too-large .fault2 .given .1) at (called .pre .in-day) in
     omega arith
 
 returns : tie.Need-returns

@@ -28,10 +28,14 @@ returns c =
     rw (day-known _ _ _ _ (known .kind .given .1) (asked .before .pre .right) (asked .kind-of .ensures) .1)
 
 returns-2 : tie.Need-returns-2
-returns-2 c = absurd (never-past _ _ _ (inr (c .enum-told .given .1)) (c .before .before .before .pre) (c .before .before .kind-of .ensures))
+returns-2 c =
+    let asked = c .before .before in
+    absurd (never-past _ _ _ (inr (c .enum-told .given .1)) (asked .before .pre) (asked .kind-of .ensures))
 
 returns-3 : tie.Need-returns-3
-returns-3 c = absurd (never-past _ _ _ (inl (c .enum-told2 .given .1)) (c .before .before .before .pre) (c .before .before .kind-of .ensures))
+returns-3 c =
+    let asked = c .before .before in
+    absurd (never-past _ _ _ (inl (c .enum-told2 .given .1)) (asked .before .pre) (asked .kind-of .ensures))
 
 pub free-day-serves-spec : {M : Type 1} → statement M
 free-day-serves-spec =

@@ -23,7 +23,7 @@ abbrev μ-loop : tie.MeasureT-loop
 μ-loop w event masks day days₀ count₀ d₀ days count d = d
 
 past-events-requires : tie.Need-past-events-requires Inv-loop μ-loop
-past-events-requires c κs = omega (arith, c .pre .0 .there, days-few _ (c .pre .0 .right))
+past-events-requires c κs = omega (arith, c .pre .day .there, days-few _ (c .pre .day .right))
 
 loop-holds : tie.Need-loop-holds Inv-loop μ-loop
 loop-holds c =
@@ -39,7 +39,7 @@ free-day-serves-requires : tie.Need-free-day-serves-requires Inv-loop μ-loop
 free-day-serves-requires c κs =
     let at-loop = c .before in
     let turn = at-loop .loop in
-    let book-day = at-loop .before .before .pre .0 in
+    let book-day = at-loop .before .before .pre .day in
     record { right = book-day .right; there = omega (arith, book-day .there, turn .inv .within, goes-on (turn .d) (turn .count) (c .loop-test .taken)) }
 
 mul-days : tie.Need-mul-days Inv-loop μ-loop
@@ -63,7 +63,7 @@ add-count c =
 past-events-requires-2 : tie.Need-past-events-requires-2 Inv-loop μ-loop
 past-events-requires-2 c κs =
     let at-loop = c .before .before .before in
-    let book-day = at-loop .before .before .pre .0 in
+    let book-day = at-loop .before .before .pre .day in
     omega (arith, at-loop .loop .inv .within, book-day .there, days-few _ (book-day .right))
 
 loop-less : tie.Need-loop-less Inv-loop μ-loop
@@ -81,11 +81,11 @@ loop-again c =
     let at-loop = in-loop .before in
     let turn = at-loop .loop in
     let called = at-loop .before .before in
-    let a = called .args in
-    let free = freeIn (a .masks .now) in
+    let given = called .args in
+    let free = freeIn (given .masks .now) in
     let on = goes-on (turn .d) (turn .count) (in-loop .loop-test .taken) in
-    let of-kind = ap (λ weekend. freeServes (a .w) weekend (turn .d - 1)) (called .pre .1) in
-    let serves-is = asked .free-day-serves .ensures ∙ of-kind ∙ free-day (a .w) free (a .day) (turn .d - 1) (turn .inv .next-free (on .days-left)) in
+    let of-kind = ap (λ weekend. freeServes (given .w) weekend (turn .d - 1)) (called .pre .week) in
+    let serves-is = asked .free-day-serves .ensures ∙ of-kind ∙ free-day (given .w) free (given .day) (turn .d - 1) (turn .inv .next-free (on .days-left)) in
     rw (c .past-events2 .ensures)
     (⊎-elim
     (λ took. rw (took .1, took .2) (walk-took _ free _ (turn .days) (turn .count) (turn .d) on (turn .inv) (sym serves-is ∙ took .0 .taken)))

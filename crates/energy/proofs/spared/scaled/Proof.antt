@@ -11,10 +11,10 @@ product : (x k : ℕ) → x < 2 ^ 44 → k ≤ 24 → x * k ≤ 2 ^ 44 * 24
 product x k hx hk = mul-le-mul {n₂ = 2 ^ 44} (omega arith) hk
 
 mul-result : tie.Need-mul-result
-mul-result c = omega (arith, product (c .args .x) (c .args .k) (c .pre .0) (c .pre .1))
+mul-result c = omega (arith, product (c .args .x) (c .args .k) (c .pre .x-small) (c .pre .k-small))
 
 returns : tie.Need-returns
-returns c = (refl, omega (arith, product (c .args .x) (c .args .k) (c .pre .0) (c .pre .1)))
+returns c = record { is = refl; small = omega (arith, product (c .args .x) (c .args .k) (c .pre .x-small) (c .pre .k-small)) }
 
 pub scaled-spec : {M : Type 1} → statement M
 scaled-spec = tie.close (tie.spec mul-result returns)

@@ -22,13 +22,15 @@ mul-scaled : tie.Need-mul-scaled
 mul-scaled c = search needs
 
 scaled-requires : tie.Need-scaled-requires
-scaled-requires c κs = omega (arith, div-le-self (6 * c .args .h) (c .args .w))
+scaled-requires c κs = record { x-small = search needs; k-small = omega (arith, div-le-self (6 * c .args .h) (c .args .w)) }
 
 add-more : tie.Need-add-more
 add-more c = search needs
 
 scaled-requires-2 : tie.Need-scaled-requires-2
-scaled-requires-2 c κs = let s = c .before .args in omega (arith, div-le-self (6 * s .h) (s .w))
+scaled-requires-2 c κs =
+    let given = c .before .args in
+    record { x-small = search needs; k-small = omega (arith, div-le-self (6 * given .h) (given .w)) }
 
 mul-less : tie.Need-mul-less
 mul-less c = search needs
@@ -46,7 +48,9 @@ mul-scaled-2 : tie.Need-mul-scaled-2
 mul-scaled-2 c = search needs
 
 scaled-requires-3 : tie.Need-scaled-requires-3
-scaled-requires-3 c κs = let s = c .before .before .before .before .args in omega (arith, div-le-self (6 * s .h) (s .w))
+scaled-requires-3 c κs =
+    let given = c .before .before .before .before .args in
+    record { x-small = search needs; k-small = omega (arith, div-le-self (6 * given .h) (given .w)) }
 
 add-floored-difference : tie.Need-add-floored-difference
 add-floored-difference c = search needs
@@ -59,19 +63,22 @@ floored-difference-requires c κs = search needs
 
 returns : tie.Need-returns
 returns c =
-    let s = c .before .before .before .before .before .before .args in
-    omega (arith, spared-capped (s .h) (s .w) (s .r) (s .b) (s .a) (s .c) (omega arith) (omega arith))
+    let capped = c .before in
+    let limited = capped .before .before in
+    let given = limited .before .before .before .args in
+    omega (arith, spared-capped (given .h) (given .w) (given .r) (given .b) (given .a) (given .c) (omega arith) (omega arith))
 
 floored-difference-requires-2 : tie.Need-floored-difference-requires-2
 floored-difference-requires-2 c κs = search needs
 
 returns-2 : tie.Need-returns-2
 returns-2 c =
-    let s = c .before .before .before .before .args in
+    let tested = c .before in
+    let given = tested .before .before .before .args in
     ⊎-elim
-    (λ w. omega (arith, spared-uncapped (s .h) (s .w) (s .r) (s .b) (s .a) (s .c) (w .1 .left)))
-    (λ w. omega (arith, spared-below (s .h) (s .w) (s .r) (s .b) (s .a) (s .c) (omega arith)))
-    (c .before .if1 .came)
+    (λ above. omega (arith, spared-uncapped (given .h) (given .w) (given .r) (given .b) (given .a) (given .c) (above .1 .left)))
+    (λ below. omega (arith, spared-below (given .h) (given .w) (given .r) (given .b) (given .a) (given .c) (omega arith)))
+    (tested .if1 .came)
 
 pub spared-spec : {M : Type 1} → statement M
 spared-spec =

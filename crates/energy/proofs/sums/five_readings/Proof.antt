@@ -21,8 +21,11 @@ reading-requires-5 c κs = search needs
 
 returns : tie.Need-returns
 returns c =
-    let d = c .before .before in
-    rw (c .reading5 .ensures, c .before .reading4 .ensures, d .reading3 .ensures, d .before .reading2 .ensures, d .before .before .reading .ensures)
+    let fourth = c .before in
+    let third = fourth .before in
+    let second = third .before in
+    let first = second .before in
+    rw (c .reading5 .ensures, fourth .reading4 .ensures, third .reading3 .ensures, second .reading2 .ensures, first .reading .ensures)
 
 pub five-readings-spec : {M : Type 1} → statement M
 five-readings-spec =

@@ -2,7 +2,7 @@
 -- Assumes nothing.
 use native.Mathlib.Omega.{arith}
 use borrow.Author.Needs.{needs}
-use Rattle.energy.proofs.TrimmedLaws.{dropped-within, trimmed-is, trimmed-small}
+use Rattle.energy.proofs.TrimmedLaws.{dropped-within, is-trimmed}
 use Rattle.energy.proofs.trimmed.trimmed_of.Statement.{statement}
 use Rattle.energy.proofs.trimmed.trimmed_of.Tie as tie
 
@@ -65,23 +65,24 @@ cast-result c = search needs
 
 sub-result : tie.Need-sub-result
 sub-result c =
-    let s = c .before .before .before in
-    omega (arith, dropped-within (s .args .t1) (c .total .ensures) (c .before .before .smallest .ensures) (c .before .largest .ensures))
+    let high = c .before in
+    let low = high .before in
+    omega (arith, dropped-within (low .before .args .t1) (c .total .ensures) (low .smallest .ensures) (high .largest .ensures))
 
 cast-result-2 : tie.Need-cast-result-2
 cast-result-2 c = search needs
 
 sub-result-2 : tie.Need-sub-result-2
 sub-result-2 c =
-    let s = c .before .before .before in
-    omega (arith, dropped-within (s .args .t1) (c .total .ensures) (c .before .before .smallest .ensures) (c .before .largest .ensures))
+    let high = c .before in
+    let low = high .before in
+    omega (arith, dropped-within (low .before .args .t1) (c .total .ensures) (low .smallest .ensures) (high .largest .ensures))
 
 returns : tie.Need-returns
 returns c =
-    let s = c .before .before .before in (
-      trimmed-is (s .args .t1) (c .total .ensures) (c .before .before .smallest .ensures) (c .before .largest .ensures) (search needs),
-      trimmed-small (s .args .t1) (c .total .ensures) (c .before .before .smallest .ensures) (c .before .largest .ensures) (search needs),
-    )
+    let high = c .before in
+    let low = high .before in
+    is-trimmed (low .before .args .t1) (c .total .ensures) (low .smallest .ensures) (high .largest .ensures) (search needs) (search needs)
 
 pub trimmed-of-spec : {M : Type 1} → statement M
 trimmed-of-spec =
