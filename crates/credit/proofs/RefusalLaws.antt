@@ -113,7 +113,9 @@ right-none : (w readings p numbers room : ℕ) → RightCall w readings p number
 unfolding callRows badBook shortOutput
 right-none w readings p numbers room s =
     let book : wrongLength (days w) readings ≡ false = length-right (days w) readings (s .book) in
-    (winter-range w .1 (s .winter), (book, (price-right p (s .price), (whole-test numbers (s .whole) (s .few), (le-ltb room (lineNumbers * countIn numbers) (s .room-for), tt)))))
+    let list = whole-test numbers (s .whole) (s .few) in
+    let room-there = le-ltb room (lineNumbers * countIn numbers) (s .room-for) in
+    (winter-range w .1 (s .winter), (book, (price-right p (s .price), (list, (room-there, tt)))))
 
 pub call-right : (w readings p numbers room : ℕ) → isRefusal (firstOf (callRows w readings p numbers room)) ≡ false → RightCall w readings p numbers room
 call-right w readings p numbers room e =
@@ -147,7 +149,8 @@ module _ (w readings p : ℕ) (l : List ℕ) (room : ℕ) where
     none-broken : NoneBroken (call ++ notices)
     unfolding refusalOf settlementTable
     none-broken =
-        let numbered = joined (λ (r : Row). 1 ≤ r .number) call notices (call-numbered w readings p (length l) room) (notices-numbered (winterOf w) (figuresOf Credit) l) in
+        let own = call-numbered w readings p (length l) room in
+        let numbered = joined (λ (r : Row). 1 ≤ r .number) call notices own (notices-numbered (winterOf w) (figuresOf Credit) l) in
         unrefused-none (call ++ notices) numbered e
 
     pub settlement-right : RightCall w readings p (length l) room
@@ -184,6 +187,7 @@ refusal-bounded w readings p l room =
     notices-bounded w (figuresOf Credit) l (whole-test (length l) (s .whole) (s .few)))
 
 -- of the output's length only its room for the lines counts
-pub refusal-room : (w readings p : ℕ) (l : List ℕ) (a b : ℕ) → lineNumbers * countOf l ≤ a → lineNumbers * countOf l ≤ b → refusalOf w readings p l a ≡ refusalOf w readings p l b
+pub refusal-room : (w readings p : ℕ) (l : List ℕ) (a b : ℕ) → lineNumbers * countOf l ≤ a → lineNumbers * countOf l ≤ b
+    → refusalOf w readings p l a ≡ refusalOf w readings p l b
 unfolding refusalOf settlementTable callRows shortOutput
 refusal-room w readings p l a b ha hb = rw (le-ltb a (lineNumbers * countOf l) ha, le-ltb b (lineNumbers * countOf l) hb)

@@ -16,7 +16,7 @@ use Rattle.numerals.specs.Fields.{Small, keyedAt}
 use Rattle.numerals.specs.Lines.{line, bytesOfLines}
 use Rattle.numerals.specs.Words.{bytesOf}
 use Rattle.numerals.specs.declared.fields.Number.the-variants as number
-use Rattle.form.specs.Document.{ReadLine, Document, noticeNumbers, eventLine, readLine, documentLines, textOf, SmallEvent, SmallRead, Writable}
+use Rattle.form.specs.Document.{ReadLine, Document, eventNumbers, eventLine, readLine, documentLines, textOf, SmallEvent, SmallRead, Writable}
 use Rattle.form.specs.Form.{topOf, afterTop, restOf, formOf}
 use Rattle.form.specs.Lines.{afterLines, eventLineAt, readLineAt, linesEnd}
 use Rattle.form.specs.declared.lines.Lines.{Lines}
@@ -116,5 +116,6 @@ form-written s f e =
             counted = rest .few;
             reads = rest .fit;
           };
-      is = here-whole (here-then (x .here) (here-then (y .here) (here-then (z .here) (here-then (lines .here) (rest .here))))) ∙ simp (lines-more, lines-append);
+      is = here-whole (here-then (x .here) (here-then (y .here) (here-then (z .here) (here-then (lines .here) (rest .here)))))
+          ∙ simp (lines-more, lines-append);
     }))

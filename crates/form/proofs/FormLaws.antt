@@ -43,7 +43,8 @@ module _ (days m : ℕ) (s : List ℕ) (at line : ℕ) where
   unfolding placedLines
   were-whole {q} {found} e = by (linesEnd (readLineAt s) m at line) refl e
     where
-      by : (x : Lines) → linesEnd (readLineAt s) m at line ≡ x → placed.Whole q found ≡ afterLines placed.Broken x (λ q. placed.Whole q first) → WereWhole q found
+      by : (x : Lines) → linesEnd (readLineAt s) m at line ≡ x → placed.Whole q found ≡ afterLines placed.Broken x (λ q. placed.Whole q first)
+          → WereWhole q found
       by (lines.Whole j) i e = let z : j ≡ q = cc in record { ends = i ∙ ap lines.Whole z; misplaced = cc }
       by (lines.Broken j) i e = let z : _≡_ {A = ℕ} 0 1 = cc in absurd (omega arith)
 
@@ -56,7 +57,8 @@ module _ (s : List ℕ) (winter price events at : ℕ) (book : List ℕ) where
   unfolding restOf readsFrom bookIn
   rest-no-count e = rw e (refl, refl)
 
-  module _ {reads p : ℕ} (e : keyedAt s at (bytesOf "reads=") ≡ number.Is reads p) {after : List ℕ} (put : after ≡ bookIn (linesSaid (readLineAt s) reads p) book) where
+  module _ {reads p : ℕ} (e : keyedAt s at (bytesOf "reads=") ≡ number.Is reads p) {after : List ℕ}
+      (put : after ≡ bookIn (linesSaid (readLineAt s) reads p) book) where
     rest-put : after ≡ bookIn (readsFrom s at) book
     unfolding readsFrom
     rest-put = put ∙ rw e

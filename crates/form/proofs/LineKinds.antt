@@ -60,7 +60,8 @@ module _ (s : List ℕ) {X A : Type 0} (one : ℕ → Read A) (write : X → Lin
     pub here : Here s at (bytesOfLines (map write values)) q
 
 module _ {s : List ℕ} {X A : Type 0} {one : ℕ → Read A} {write : X → Line} {say : X → A} {Fits : X → Type 0} (kind : Kind s one write say Fits) where
-  pub lines-read : (r : List ℕ) (xs : List X) (at line : ℕ) → Every Fits xs → drop at s ≡ bytesOfLines (map write xs) ++ r → LinesRead s one write say Fits xs at line
+  pub lines-read : (r : List ℕ) (xs : List X) (at line : ℕ) → Every Fits xs → drop at s ≡ bytesOfLines (map write xs) ++ r
+      → LinesRead s one write say Fits xs at line
   unfolding linesEnd linesSaid
   lines-read r [] at line fit e = record { ends = ap lines.Whole (none-long at); say-them = refl }
   lines-read r (x ∷ xs) at line fit e =

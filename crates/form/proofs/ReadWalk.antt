@@ -40,7 +40,8 @@ pub record HoursOf (r : Read ReadLine) (day hour count p : ℕ) : Type 0 where
 pub hours-of : (r : Read ReadLine) {day hour count p : ℕ} → hours.Of day hour count p ≡ hoursTold r → HoursOf r day hour count p
 hours-of r {day} {hour} {count} {p} e = by (r .end) refl e
   where
-    by : (x : Step) → r .end ≡ x → hours.Of day hour count p ≡ afterStep hours.Broken x (λ q. hours.Of (r .said .day) (r .said .hour) (length (r .said .values)) q)
+    by : (x : Step) → r .end ≡ x
+        → hours.Of day hour count p ≡ afterStep hours.Broken x (λ q. hours.Of (r .said .day) (r .said .hour) (length (r .said .values)) q)
         → HoursOf r day hour count p
     by (step.To q) i e = let same : q ≡ p = cc in record { ends = i ∙ ap step.To same; its-day = cc; its-hour = cc; many = cc }
     by step.Broken i e = let z : _≡_ {A = ℕ} 0 1 = cc in absurd (omega arith)
@@ -69,7 +70,8 @@ pub record ReadsLeft (days : ℕ) (s : List ℕ) (at reads first : ℕ) (came bo
   pub few : left ≤ reads
   pub size : length book ≡ length came
   pub ends : linesEnd (readLineAt s) reads at first ≡ linesEnd (readLineAt s) left i line
-  pub first-misplaced : misplacedIn days (linesSaid (readLineAt s) reads at) first 0 ≡ foundOr found (misplacedIn days (linesSaid (readLineAt s) left i) line end)
+  pub first-misplaced : misplacedIn days (linesSaid (readLineAt s) reads at) first 0
+      ≡ foundOr found (misplacedIn days (linesSaid (readLineAt s) left i) line end)
   pub puts : bookIn (linesSaid (readLineAt s) reads at) came ≡ bookIn (linesSaid (readLineAt s) left i) book
 
 pub reads-start : (days : ℕ) (s : List ℕ) (at reads first : ℕ) (came : List ℕ) → ReadsLeft days s at reads first came came reads at first 0 0

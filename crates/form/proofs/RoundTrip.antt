@@ -14,7 +14,7 @@ use Rattle.numerals.specs.Fields.{keyedAt}
 use Rattle.numerals.specs.Lines.{line, lineBytes, bytesOfLines}
 use Rattle.numerals.specs.Words.{bytesOf}
 use Rattle.numerals.specs.declared.fields.Number.the-variants as number
-use Rattle.form.specs.Document.{EventLine, ReadLine, Document, noticeNumbers, eventLine, readLine, documentLines, textOf, SmallEvent, SmallRead, Writable, noticesIn}
+use Rattle.form.specs.Document.{EventLine, ReadLine, Document, eventNumbers, eventLine, readLine, documentLines, textOf, SmallEvent, SmallRead, Writable, noticesIn}
 use Rattle.form.specs.Form.{topOf, restOf, formOf, noticesSaid, readsFrom, readsSaid}
 use Rattle.form.specs.Lines.{eventLineAt, readLineAt, linesSaid}
 use Rattle.form.specs.Places.{bookDays, misplacedLineIn}
@@ -43,10 +43,10 @@ shapeOf d = record {
 }
 
 -- the numbers of event lines, one line after the other, are the list of notices
-pub notices-flat : (xs : List EventLine) → flatten (map noticeNumbers xs) ≡ noticesIn xs
+pub notices-flat : (xs : List EventLine) → flatten (map eventNumbers xs) ≡ noticesIn xs
 unfolding flatten noticesIn
 notices-flat [] = refl
-notices-flat (x ∷ xs) = ap (λ (l : List ℕ). noticeNumbers x ++ l) (notices-flat xs)
+notices-flat (x ∷ xs) = ap (λ (l : List ℕ). eventNumbers x ++ l) (notices-flat xs)
 
 module _ (d : Document) (ok : Writable d) where
   -- the six parts of the text
@@ -136,7 +136,7 @@ module _ (d : Document) (ok : Writable d) where
     keyed-reads (textOf d) (bytesOf "events=") fromEvents countAt (length (d .events)) (ok .count) at-count,
   )
 
-  events-read : LinesRead (textOf d) (eventLineAt (textOf d)) eventLine noticeNumbers SmallEvent (d .events) eventsAt 4
+  events-read : LinesRead (textOf d) (eventLineAt (textOf d)) eventLine eventNumbers SmallEvent (d .events) eventsAt 4
   events-read = lines-read (events (textOf d)) fromCounted (d .events) eventsAt 4 (ok .events) at-events
 
   counted-read : keyedAt (textOf d) countedAt (bytesOf "reads=") ≡ number.Is (length (d .reads)) readsAt

@@ -15,7 +15,7 @@ use Rattle.numerals.proofs.ReadFields.{keyed-reads}
 use Rattle.numerals.specs.Fields.{Small}
 use Rattle.numerals.specs.Lines.{Line, lineBytes, bytesOfLines}
 use Rattle.numerals.specs.Words.{bytesOf}
-use Rattle.form.specs.Document.{EventLine, ReadLine, Document, noticeNumbers, eventLine, readLine, documentLines, textOf, SmallEvent, Writable}
+use Rattle.form.specs.Document.{EventLine, ReadLine, Document, eventNumbers, eventLine, readLine, documentLines, textOf, SmallEvent, Writable}
 use Rattle.form.specs.Form.{formOf}
 use Rattle.form.specs.declared.whole.Form.the-variants as form
 use Rattle.form.proofs.Begins.{bodyLines, document-long, Begins}
@@ -63,7 +63,7 @@ same-long d c r q a b e =
 
 -- each line of a document ends once: its key has no line end, and it has a number
 event-once : (x : EventLine) → EndsOnce (eventLine x)
-event-once x = numbers-end-once (bytesOf "event=") (noticeNumbers x) refl (omega arith)
+event-once x = numbers-end-once (bytesOf "event=") (eventNumbers x) refl (omega arith)
 
 read-once : (x : ReadLine) → EndsOnce (readLine x)
 read-once x = numbers-end-once (bytesOf "read=") (x .day ∷ x .hour ∷ x .values) refl (omega arith)
@@ -78,7 +78,8 @@ end-once d =
     let read-lines = map-of EndsOnce readLine (d .reads) (all (λ (x : ReadLine). EndsOnce (readLine x)) read-once (d .reads)) in
     let counted = key-once (bytesOf "reads=") (length (d .reads)) refl in
     let body = joined EndsOnce (map eventLine (d .events)) (bodyLines [] (d .reads)) event-lines (counted, read-lines) in
-    (key-once (bytesOf "winter=") (d .winter) refl, (key-once (bytesOf "price=") (d .price) refl, (key-once (bytesOf "events=") (length (d .events)) refl, body)))
+    let events = key-once (bytesOf "events=") (length (d .events)) refl in
+    (key-once (bytesOf "winter=") (d .winter) refl, (key-once (bytesOf "price=") (d .price) refl, (events, body)))
 
 -- values of which the text stops in a line: lines before it, the line itself, of which a part stands there, and lines after it
 module _ (d : Document) (ok : Writable d) (xs : List Line) (x : Line) (ys : List Line) (are : documentLines d ≡ xs ++ (x ∷ ys))

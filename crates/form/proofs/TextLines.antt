@@ -22,7 +22,7 @@ use Rattle.numerals.specs.Rows.{Read, noNumber, rowAt}
 use Rattle.numerals.specs.Words.{bytesOf, comma}
 use Rattle.numerals.specs.declared.fields.Step.{Step}
 use Rattle.numerals.specs.declared.fields.Step.the-variants as step
-use Rattle.form.specs.Document.{EventLine, ReadLine, noticeNumbers, eventLine, readLine, SmallEvent, SmallRead}
+use Rattle.form.specs.Document.{EventLine, ReadLine, eventNumbers, eventLine, readLine, SmallEvent, SmallRead}
 use Rattle.form.specs.Lines.{exactly, eventLineAt, headAt, afterHead, noRead, readFrom, readLineAt}
 use Rattle.form.specs.declared.lines.Head.{Head}
 use Rattle.form.specs.declared.lines.Head.the-variants as head
@@ -31,21 +31,23 @@ use Rattle.form.proofs.LineLaws.{event-read, read-read}
 
 -- an event line: its key, and three numbers
 event-reads : (s r : List ℕ) (at : ℕ) (x : EventLine) → SmallEvent x → drop at s ≡ lineBytes (eventLine x) ++ r
-    → eventLineAt s at ≡ record { said = noticeNumbers x; end = step.To (at + length (lineBytes (eventLine x))) }
+    → eventLineAt s at ≡ record { said = eventNumbers x; end = step.To (at + length (lineBytes (eventLine x))) }
 unfolding eventLineAt
 event-reads s r at x small e =
     let key = bytesOf "event=" in
-    let three = numberBytes (noticeNumbers x) in
+    let three = numberBytes (eventNumbers x) in
     let there : drop at s ≡ key ++ (three ++ r) = e ∙ rw line-is (append-assoc key three r) in
-    let row = row-reads s r (at + length key) 3 (noticeNumbers x) (small .day, (small .start, (small .end, tt))) (omega arith) (omega arith) (past s key (three ++ r) at there) in
-    let z : at + length key + length three ≡ at + length (lineBytes (eventLine x)) = omega (arith, ap length (line-is (eventLine x)), length-append key three) in
+    let row = row-reads s r (at + length key) 3 (eventNumbers x) (small .day, (small .start, (small .end, tt))) (omega arith) (omega arith)
+    (past s key (three ++ r) at there) in
+    let z : at + length key + length three ≡ at + length (lineBytes (eventLine x))
+    = omega (arith, ap length (line-is (eventLine x)), length-append key three) in
     rw (word-reads s (three ++ r) at key there, row, z)
 
 -- three numbers are those of an event line
 record Three (ns : List ℕ) : Type 0 where
   value : EventLine
   fits : SmallEvent value
-  is : ns ≡ noticeNumbers value
+  is : ns ≡ eventNumbers value
 
 three : (ns : List ℕ) → Every Small ns → length ns ≡ 3 → Three ns
 three [] small e = absurd (omega arith)
@@ -58,7 +60,7 @@ three (a ∷ (b ∷ (c ∷ []))) small e = record {
 }
 three (a ∷ (b ∷ (c ∷ (d ∷ ns)))) small e = absurd (omega arith)
 
-event-written : (s : List ℕ) (at q : ℕ) → eventLineAt s at .end ≡ step.To q → LineWritten s (eventLineAt s) eventLine noticeNumbers SmallEvent at q
+event-written : (s : List ℕ) (at q : ℕ) → eventLineAt s at .end ≡ step.To q → LineWritten s (eventLineAt s) eventLine eventNumbers SmallEvent at q
 event-written s at q e =
     let read = event-read s at q e in
     let row = row-written 3 s (read .from) q (read .ends) in
@@ -71,7 +73,7 @@ event-written s at q e =
       here = rw line-is (here-then key (rw (ns .is) at (row .here)));
     }
 
-pub events : (s : List ℕ) → Kind s (eventLineAt s) eventLine noticeNumbers SmallEvent
+pub events : (s : List ℕ) → Kind s (eventLineAt s) eventLine eventNumbers SmallEvent
 events s = record { reads = event-reads s; written = event-written s }
 
 -- the start of a read line

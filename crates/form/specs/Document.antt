@@ -24,12 +24,12 @@ pub record Document : Type 0 where
   pub reads : List ReadLine
 
 -- "A notice is three numbers: day, first hour s, end e"
-abbrev pub noticeNumbers : EventLine → List ℕ
-noticeNumbers x = x .day ∷ x .start ∷ x .end ∷ []
+abbrev pub eventNumbers : EventLine → List ℕ
+eventNumbers x = x .day ∷ x .start ∷ x .end ∷ []
 
 -- `event=day,s,e`
 abbrev pub eventLine : EventLine → Line
-eventLine x = line "event=" (noticeNumbers x)
+eventLine x = line "event=" (eventNumbers x)
 
 -- `read=day,hour,v,..`
 abbrev pub readLine : ReadLine → Line
@@ -71,4 +71,4 @@ pub record Writable (d : Document) : Type 0 where
 -- the list of notices
 unfoldable pub noticesIn : List EventLine → List ℕ
 noticesIn [] = []
-noticesIn (x ∷ xs) = noticeNumbers x ++ noticesIn xs
+noticesIn (x ∷ xs) = eventNumbers x ++ noticesIn xs

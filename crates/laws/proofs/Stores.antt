@@ -1,12 +1,12 @@
 -- Stores in a row, for loops that fill a lent slice from its front.
 -- Assumes nothing.
 use Prim.Native.Nat.{ℕ, zero, suc, _+_, _≤_}
-use mathlib.Core.List.{List, [], _∷_, _++_, append-nil}
+use mathlib.Core.List.{List, [], _∷_, _++_}
 use mathlib.Core.Path.{_≡_, refl, ap, sym, _∙_}
 use native.Mathlib.Nat.{add-suc}
 use native.Mathlib.Numerals.{add-one}
 use native.Mathlib.Omega.{arith}
-use lib.ListN.{length, set, take, drop, replicate, length-append, length-drop, drop-of-length-le}
+use lib.ListN.{length, set, take, drop, replicate, length-append, length-drop}
 use lib.Seq.{sets, sets-eq, take-at, drop-append-add, drop-drop}
 
 -- stores that start where the done part xs ends make it longer by what they store, and leave the rest of the slice l as it was
@@ -36,13 +36,6 @@ from-sets l i j (v ∷ vs) = from-sets (set l (i + j) v) i (suc j) vs ∙ rw (ad
 pub stores-in-a-row : (l : List ℕ) (i : ℕ) (vs : List ℕ) → storesAt l i vs ≡ sets l i vs
 stores-in-a-row l i [] = refl
 stores-in-a-row l i (v ∷ vs) = from-sets (set l i v) i 1 vs ∙ rw (add-one i)
-
--- stores over a whole slice leave what they store
-pub sets-whole : (l vs : List ℕ) → length vs ≡ length l → sets l 0 vs ≡ vs
-sets-whole l vs e =
-    let fits : 0 + length vs ≤ length l = omega arith in
-    let none : length l ≤ 0 + length vs = omega arith in
-    sets-eq vs l 0 fits ∙ ap (λ (r : List ℕ). vs ++ r) (drop-of-length-le l none) ∙ append-nil vs
 
 -- the front of a slice of equal numbers
 pub take-replicate : (n m a : ℕ) → n ≤ m → take n (replicate m a) ≡ replicate n a

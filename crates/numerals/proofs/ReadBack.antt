@@ -44,7 +44,8 @@ unfolding numbersFrom numberEnded readOn
 key-read [] l p = refl
 key-read (b ∷ key) l p = rw (p .0 .1, p .0 .0) (key-read key l (p .1))
 
-fields-read : (fs : List (List ℕ)) (l : List ℕ) → Every (λ (f : List ℕ). Every NoEnd f) fs → numbersIn (fieldBytes fs ++ l) ≡ map (worthFrom 0) fs ++ numbersIn l
+fields-read : (fs : List (List ℕ)) (l : List ℕ) → Every (λ (f : List ℕ). Every NoEnd f) fs
+    → numbersIn (fieldBytes fs ++ l) ≡ map (worthFrom 0) fs ++ numbersIn l
 unfolding fieldBytes isDigit endsNumber
 fields-read [] l p = refl
 fields-read (f ∷ []) l p = rw (append-assoc f (lineEnd ∷ []) l) (field-read 0 f lineEnd l (p .0) refl refl)

@@ -31,7 +31,8 @@ fn put_refusal(out: &mut [u8], number: u64, place: u64) -> usize
 // Puts winter, price and number of notices at the front of the output.
 fn put_head(out: &mut [u8], winter: u64, price: u64, notices: u64) -> usize
     requires { ⌜ 83 ≤ length (now out) ⌝ }
-    ensures { λ r. ⌜ Put (now (out .entry)) 0 (bytesOfLines (line "winter=" (winter ∷ []) ∷ line "price=" (price ∷ []) ∷ line "events=" (notices ∷ []) ∷ [])) r (now (out .exit)) ⌝ }
+    ensures { λ r. ⌜ Put (now (out .entry)) 0
+        (bytesOfLines (line "winter=" (winter ∷ []) ∷ line "price=" (price ∷ []) ∷ line "events=" (notices ∷ []) ∷ [])) r (now (out .exit)) ⌝ }
     ensures { λ r. ⌜ r ≤ 83 ⌝ }
 {
     let second = put_line(out, 0, b"winter=", &[winter]);
@@ -92,8 +93,10 @@ pub fn print_statement(
     cents: u64,
     out: &mut [u8],
 ) -> usize
-    ensures { λ r. ⌜ r ≡ printedCount (cannotPrint (countOf (now (list .entry))) (length (now (lines .entry))) (length (now (out .entry)))) (statementBytes winter price (now (list .entry)) (now (lines .entry)) energy cents) ⌝ }
-    ensures { λ _. ⌜ now (out .exit) ≡ printed (cannotPrint (countOf (now (list .entry))) (length (now (lines .entry))) (length (now (out .entry)))) (statementBytes winter price (now (list .entry)) (now (lines .entry)) energy cents) (now (out .entry)) ⌝ }
+    ensures { λ r. ⌜ r ≡ printedCount (cannotPrint (countOf (now (list .entry))) (length (now (lines .entry))) (length (now (out .entry))))
+        (statementBytes winter price (now (list .entry)) (now (lines .entry)) energy cents) ⌝ }
+    ensures { λ _. ⌜ now (out .exit) ≡ printed (cannotPrint (countOf (now (list .entry))) (length (now (lines .entry))) (length (now (out .entry))))
+        (statementBytes winter price (now (list .entry)) (now (lines .entry)) energy cents) (now (out .entry)) ⌝ }
 {
     if cannot_print(notices::count_in(list.len()), lines.len(), out.len()) {
         return 0;

@@ -29,7 +29,8 @@ module _ (w : ℕ) (f : Figures) (l : List ℕ) where
   notices-bounded b =
       let few = list-fits (length l) b .few in
       bounded-first (noticesTable (winterOf w) f l)
-      (all-rows (λ (r : Row). (r .number ≤ largestNumber) × (r .place ≤ largestPlace)) (rowsAt (winterOf w) f l) (countOf l) (λ k h. row-bounded k (omega arith)))
+      (all-rows (λ (r : Row). (r .number ≤ largestNumber) × (r .place ≤ largestPlace)) (rowsAt (winterOf w) f l) (countOf l)
+      (λ k h. row-bounded k (omega arith)))
 
 pub check-bounded : (w : ℕ) (l : List ℕ) (q : ℕ) → Bounded (checkAnswer w q l)
 unfolding checkAnswer checkTable

@@ -35,7 +35,21 @@ use Rattle.printing.proofs.RoomLaws.{can-print, all-printed}
 use Rattle.printing.specs.Room.{cannotPrint, printed, printedCount}
 use Rattle.printing.specs.Sheet.{refusedBytes, statementBytes}
 use Rattle.text.specs.Prints.{Prints, Holds, PrintsHeld, shapeBytes}
-use Rattle.text.specs.Statement.{mostBytes, noReadings, roomFor, settlementBytes, settledBytes, valuesBytes, formBytes, statementOf, answerRoom, tooSmall, startsWith, answered, answeredIn}
+use Rattle.text.specs.Statement.{
+  mostBytes,
+  noReadings,
+  roomFor,
+  settlementBytes,
+  settledBytes,
+  valuesBytes,
+  formBytes,
+  statementOf,
+  answerRoom,
+  tooSmall,
+  startsWith,
+  answered,
+  answeredIn,
+}
 
 pub prints-same : {out bytes other after : List ℕ} {n : ℕ} → Prints bytes out n after → bytes ≡ other → Prints other out n after
 prints-same p e = rw (← e) p
@@ -149,7 +163,8 @@ module _ (s out : List ℕ) where
     unfolding formBytes
     form-broken h line e p = by-form h (form.Broken line) e p
 
-    pub by-arrays : length s ≤ mostBytes → (f : Shape) → form.Whole f ≡ formOf s → {list book : List ℕ} → list ≡ sets (replicate longestList 0) 0 (noticesSaid s)
+    pub by-arrays : length s ≤ mostBytes → (f : Shape) → form.Whole f ≡ formOf s → {list book : List ℕ}
+        → list ≡ sets (replicate longestList 0) 0 (noticesSaid s)
         → book ≡ bookIn (readsSaid s) (replicate mostReadings missingMark) → PrintsHeld (f .events) list (shapeBytes f book) out n after
         → (n ≡ answered s out) × (after ≡ answeredIn s out)
     by-arrays h f e held filled p =

@@ -44,7 +44,8 @@ fn print_settled(
 // Prints the settlement of the notices of a text, of which the list has room for 100. More are refused, with 3 or 4, by how many they are.
 fn print_notices(shape: Shape, list: &[u32], book: &[u32], out: &mut [u8]) -> usize
     requires { ⌜ (length (now list) ≡ longestList) × (answerRoom ≤ length (now out)) ⌝ }
-    ensures { λ r. ⌜ PrintsHeld (shape .events) (now (list .entry)) (settledBytes (shape .winter) (now (book .entry)) (shape .price)) (now (out .entry)) r (now (out .exit)) ⌝ }
+    ensures { λ r. ⌜ PrintsHeld (shape .events) (now (list .entry)) (settledBytes (shape .winter) (now (book .entry)) (shape .price))
+        (now (out .entry)) r (now (out .exit)) ⌝ }
 {
     let events = shape.events as usize;
     if notices::MOST_NOTICES < events {

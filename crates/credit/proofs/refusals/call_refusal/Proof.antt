@@ -36,7 +36,8 @@ returns-3 c =
     let price = c .before in
     let book = price .before .before in
     let winter = book .before .before in
-    price-refused _ _ _ _ _ _ _ (winter .days .given .1) (winter .before .before .winter-days .ensures) (found (book .wrong-length .ensures) (price .before .if1 .left))
+    price-refused _ _ _ _ _ _ _ (winter .days .given .1) (winter .before .before .winter-days .ensures)
+    (found (book .wrong-length .ensures) (price .before .if1 .left))
     (found (price .bad-price .ensures) (c .if2 .taken))
 
 bad-list-requires : tie.Need-bad-list-requires
@@ -48,7 +49,8 @@ returns-4 c =
     let price = list .before .before in
     let book = price .before .before in
     let winter = book .before .before in
-    list-refused _ _ _ _ _ _ _ (winter .days .given .1) (winter .before .before .winter-days .ensures) (found (book .wrong-length .ensures) (price .before .if1 .left))
+    list-refused _ _ _ _ _ _ _ (winter .days .given .1) (winter .before .before .winter-days .ensures)
+    (found (book .wrong-length .ensures) (price .before .if1 .left))
     (found (price .bad-price .ensures) (list .before .if2 .left)) (found (list .bad-list .ensures) (c .if3 .taken))
 
 short-output-requires : tie.Need-short-output-requires
@@ -61,7 +63,8 @@ returns-5 c =
     let price = list .before .before in
     let book = price .before .before in
     let winter = book .before .before in
-    output-refused _ _ _ _ _ _ _ (winter .days .given .1) (winter .before .before .winter-days .ensures) (found (book .wrong-length .ensures) (price .before .if1 .left))
+    output-refused _ _ _ _ _ _ _ (winter .days .given .1) (winter .before .before .winter-days .ensures)
+    (found (book .wrong-length .ensures) (price .before .if1 .left))
     (found (price .bad-price .ensures) (list .before .if2 .left)) (found (list .bad-list .ensures) (output .before .if3 .left))
     (found (output .short-output .ensures) (c .if4 .taken))
 
@@ -72,7 +75,8 @@ returns-6 c =
     let price = list .before .before in
     let book = price .before .before in
     let winter = book .before .before in
-    none-refused _ _ _ _ _ _ _ (winter .days .given .1) (winter .before .before .winter-days .ensures) (found (book .wrong-length .ensures) (price .before .if1 .left))
+    none-refused _ _ _ _ _ _ _ (winter .days .given .1) (winter .before .before .winter-days .ensures)
+    (found (book .wrong-length .ensures) (price .before .if1 .left))
     (found (price .bad-price .ensures) (list .before .if2 .left)) (found (list .bad-list .ensures) (output .before .if3 .left))
     (found (output .short-output .ensures) (c .if4 .left))
 

@@ -9,7 +9,8 @@ use Rattle.form.proofs.lines.read_lines.Statement.{statement}
 use Rattle.form.proofs.lines.read_lines.Tie as tie
 
 abbrev Inv-loop : tie.InvT-loop
-Inv-loop text at reads first days book₀ left₀ i₀ line₀ end₀ found₀ book left i line end found = ReadsLeft days text at reads first book₀ book left i line end found
+Inv-loop text at reads first days book₀ left₀ i₀ line₀ end₀ found₀ book left i line end found =
+    ReadsLeft days text at reads first book₀ book left i line end found
 
 abbrev μ-loop : tie.MeasureT-loop
 μ-loop text at reads first days book₀ left₀ i₀ line₀ end₀ found₀ book left i line end found = left

@@ -80,7 +80,8 @@ returns-3 c =
     let a = count .before .before .before .before .args in
     let is = sym (count .keyed-at .ensures) ∙ counted .reads .given .1 in
     let told = rw (days .book-days .ensures) at (lines .read-lines .ensures .0) in
-    rest-whole (a .text .now) (a .winter) (a .price) (a .events) (a .at) _ is (lines .read-lines .ensures .1) (sym (known .end .given .1) ∙ told) (c .if1 .taken)
+    rest-whole (a .text .now) (a .winter) (a .price) (a .events) (a .at) _ is (lines .read-lines .ensures .1)
+    (sym (known .end .given .1) ∙ told) (c .if1 .taken)
 
 same-length-3 : tie.Need-same-length-3
 same-length-3 c = search needs
@@ -95,7 +96,8 @@ returns-4 c =
     let a = count .before .before .before .before .args in
     let is = sym (count .keyed-at .ensures) ∙ counted .reads .given .1 in
     let told = rw (days .book-days .ensures) at (lines .read-lines .ensures .0) in
-    rest-follows (a .text .now) (a .winter) (a .price) (a .events) (a .at) _ is (lines .read-lines .ensures .1) (sym (known .end .given .1) ∙ told) (c .if1 .left)
+    rest-follows (a .text .now) (a .winter) (a .price) (a .events) (a .at) _ is (lines .read-lines .ensures .1)
+    (sym (known .end .given .1) ∙ told) (c .if1 .left)
 
 pub rest-of-spec : {M : Type 1} → statement M
 rest-of-spec =

@@ -72,7 +72,10 @@ returns-3 c =
     let asked = known .before .before in
     let right = is-winter _ _ _ (known .days .given .1) (asked .winter-days .ensures) in
     let many = winter-count _ _ _ (known .days .given .1) (asked .winter-days .ensures) in
-    record { for-each = λ l h. prints-same (printed .print-notices .ensures .for-each l h) (rw (long .length-of .ensures, many) (values-settled _ _ l _ _ right (found .if1 .left))) }
+    record {
+      for-each = λ l h. prints-same (printed .print-notices .ensures .for-each l h)
+          (rw (long .length-of .ensures, many) (values-settled _ _ l _ _ right (found .if1 .left)));
+    }
 
 pub print-formed-spec : {M : Type 1} → statement M
 print-formed-spec =

@@ -38,7 +38,8 @@ returns c =
     let a = start .args in
     record {
       for-each = λ l h. prints-same (refused .refuse .ensures)
-          (many-refused (a .shape .winter) (a .shape .price) _ (a .book .now) l (a .shape .events) (h .three) (many .if1 .taken) (number .call-refusal .ensures));
+          (many-refused (a .shape .winter) (a .shape .price) _ (a .book .now) l (a .shape .events) (h .three) (many .if1 .taken)
+          (number .call-refusal .ensures));
     }
 
 mul-print-settled : tie.Need-mul-print-settled
