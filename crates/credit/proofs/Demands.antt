@@ -1,17 +1,18 @@
--- Demands 2 and 3 of an accepted settlement, said of the numbers that stand in its output: what each line says is the answer on its event,
+-- Demands 2 and 3 of an accepted settlement, said of the numbers that stand in its output: each line tells what its event comes to,
 -- the cents of every run of lines are near their exact worth, no line is negative, and the lines add up to the totals.
 -- Assumes nothing.
 use Prim.Native.Nat.{ℕ, suc, _+_, _*_, _≤_, _<_}
 use mathlib.Core.Bool.{false}
-use mathlib.Core.List.{List, [], _∷_}
+use mathlib.Core.List.{List}
 use mathlib.Core.Path.{_≡_, _∙_}
 use native.Mathlib.Omega.{arith}
 use lib.ListN.{length, drop}
 use lib.Seq.{drop-at}
 use Rattle.calendar.specs.WinterOf.{winterOf}
-use Rattle.energy.specs.Line.{eventAnswer}
+use Rattle.energy.specs.Asked.{askedBy}
+use Rattle.energy.specs.Line.{lineOf}
+use Rattle.energy.specs.ReferenceDays.{freeIn}
 use Rattle.event_hours.specs.Days.{masksOf}
-use Rattle.laws.specs.Answer.{given}
 use Rattle.laws.specs.Table.{isRefusal}
 use Rattle.laws.proofs.SumLaws.{run-same, run-first}
 use Rattle.laws.specs.Sums.{runOf}
@@ -21,14 +22,14 @@ use Rattle.money.specs.Cents.{centsAt}
 use Rattle.money.specs.Worth.{centParts, exactWorth, roundedWorth}
 use Rattle.notices.specs.Notices.{countOf, noticeAt}
 use Rattle.laws.proofs.RowLaws.{rows-long}
-use Rattle.settlement.proofs.EventLaws.{event-line}
+use Rattle.settlement.proofs.EventLaws.{event-is-line}
 use Rattle.settlement.specs.Events.{eventAt, energyAt}
-use Rattle.settlement.specs.declared.events.Event.{Event}
+use Rattle.energy.specs.declared.events.Event.{Event}
 use Rattle.credit.specs.Lines.{lineNumbers, linesTo}
-use Rattle.credit.specs.Printed.{codeIn, placeIn, energyIn, centsIn}
+use Rattle.credit.specs.Printed.{energyIn, centsIn, eventTold}
 use Rattle.credit.specs.Refusals.{refusalOf}
 use Rattle.credit.specs.Settlement.{settlement, linesIn, written}
-use Rattle.credit.proofs.LineLaws.{line-wide, code-is, place-is, energy-is, cents-is}
+use Rattle.credit.proofs.LineLaws.{line-wide, energy-is, told-is, cents-is}
 use Rattle.credit.proofs.RefusalLaws.{settlement-right, list-lawful}
 use Rattle.credit.proofs.SettlementLaws.{number-is, settled-accepted, written-accepted}
 
@@ -82,14 +83,12 @@ module _ (w p : ℕ) (book l out : List ℕ) (ok : settlement w book p l (length
   pub energies-add-up : runOf (energyIn output) 0 n ≡ settlement w book p l (length out) .energy
   energies-add-up = rw (energy-run-is 0 n (omega arith), run-first (energyAt events) n, settled-accepted w p book l (length out) none)
 
-  -- DEMAND 2: the code, place and energy of a line are the answer on its event, which is not refused
-  pub line-is-answer : (k : ℕ) → k < n
-      → eventAnswer (winterOf w) book (masksOf l) (noticeAt l k) ≡ given (codeIn output k ∷ placeIn output k ∷ energyIn output k ∷ [])
+  -- DEMAND 2: the code, place and energy of a line are what its event asks of the book comes to
+  pub line-is-answer : (k : ℕ) → k < n → eventTold output k ≡ lineOf book (askedBy (winterOf w) (freeIn (masksOf l)) (noticeAt l k))
   line-is-answer k h =
       let s = settlement-right w (length book) p l (length out) none in
       let r = list-lawful w (length book) p l (length out) none in
-      let rest = drop (lineNumbers * n) out in
-      event-line w book l k (s .book) (r .each k h) ∙ rw (output-is, code-is p events rest n k h, place-is p events rest n k h, energy-is p events rest n k h)
+      rw output-is (told-is p events (drop (lineNumbers * n) out) n k h) ∙ event-is-line w book l k (s .book) (r .each k h)
 
   -- "Numbers past the last line are untouched."
   pub past-untouched : drop (lineNumbers * n) output ≡ drop (lineNumbers * n) out

@@ -14,9 +14,9 @@ use Rattle.money.specs.Cents.{centsAt}
 use Rattle.money.specs.Worth.{mostEnergy}
 use Rattle.notices.specs.Notices.{mostNotices}
 use Rattle.settlement.specs.Events.{energyAt}
-use Rattle.settlement.specs.declared.events.Event.{Event}
+use Rattle.energy.specs.declared.events.Event.{Event}
 use Rattle.credit.specs.Lines.{lineNumbers, lineAt, linesTo}
-use Rattle.credit.specs.Printed.{codeIn, placeIn, energyIn, centsIn}
+use Rattle.credit.specs.Printed.{codeIn, placeIn, energyIn, centsIn, eventTold}
 
 -- sums and lines go by the events that they are of
 module _ (f g : ℕ → Event) where
@@ -42,17 +42,21 @@ module _ (p : ℕ) (events : ℕ → Event) where
 
   -- what stands at line k of n lines
   module _ (rest : List ℕ) (n k : ℕ) (h : k < n) where
-    pub code-is : codeIn (linesTo p events n ++ rest) k ≡ events k .code
+    code-is : codeIn (linesTo p events n ++ rest) k ≡ events k .code
     unfolding lineAt
     code-is = rw (← add-zero (lineNumbers * k)) (row-in line-wide rest n k 0 h (omega arith))
 
-    pub place-is : placeIn (linesTo p events n ++ rest) k ≡ events k .place
+    place-is : placeIn (linesTo p events n ++ rest) k ≡ events k .place
     unfolding lineAt
     place-is = row-in line-wide rest n k 1 h (omega arith)
 
     pub energy-is : energyIn (linesTo p events n ++ rest) k ≡ events k .energy
     unfolding lineAt
     energy-is = row-in line-wide rest n k 2 h (omega arith)
+
+    -- so a line tells its event
+    pub told-is : eventTold (linesTo p events n ++ rest) k ≡ events k
+    told-is = rw (code-is, place-is, energy-is)
 
     pub cents-is : centsIn (linesTo p events n ++ rest) k ≡ centsAt p (energyAt events) k
     unfolding lineAt

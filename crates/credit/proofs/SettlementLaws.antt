@@ -27,7 +27,7 @@ use Rattle.schedule.specs.Verdicts.{numberOf, placeOf, verdictPaper}
 use Rattle.schedule.specs.declared.verdicts.Verdict.{Verdict}
 use Rattle.settlement.proofs.EventLaws.{energies-bounded, same-event}
 use Rattle.settlement.specs.Events.{eventAt, eventIn, energyAt}
-use Rattle.settlement.specs.declared.events.Event.{Event}
+use Rattle.energy.specs.declared.events.Event.{Event}
 use Rattle.credit.specs.Lines.{lineNumbers, linesTo}
 use Rattle.credit.specs.Refusals.{callRows, refusalOf}
 use Rattle.credit.specs.Settlement.{Fits, refusedWith, totalsOf, linesIn, settledBy, writtenBy, settlement, written}

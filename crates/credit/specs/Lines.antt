@@ -5,7 +5,7 @@ use mathlib.Core.List.{List, [], _∷_}
 use Rattle.laws.specs.Rows.{rowsTo}
 use Rattle.money.specs.Cents.{centsAt}
 use Rattle.settlement.specs.Events.{energyAt}
-use Rattle.settlement.specs.declared.events.Event.{Event}
+use Rattle.energy.specs.declared.events.Event.{Event}
 
 abbrev pub lineNumbers : ℕ
 lineNumbers = 4

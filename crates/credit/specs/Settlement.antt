@@ -13,7 +13,7 @@ use Rattle.money.specs.Price.{badPrice}
 use Rattle.money.specs.Worth.{roundedWorth}
 use Rattle.notices.specs.Notices.{mostNotices, countOf}
 use Rattle.settlement.specs.Events.{eventAt, energyAt}
-use Rattle.settlement.specs.declared.events.Event.{Event}
+use Rattle.energy.specs.declared.events.Event.{Event}
 use Rattle.credit.specs.Lines.{lineNumbers, lineAt}
 use Rattle.credit.specs.Refusals.{refusalOf}
 use Rattle.credit.specs.declared.call.Settlement.{Settlement}

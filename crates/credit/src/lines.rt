@@ -9,7 +9,7 @@ ghost use Rattle.settlement.specs.Events.{eventIn, energyAt};
 ghost use Rattle.credit.specs.Lines.{lineNumbers};
 ghost use Rattle.credit.specs.Settlement.{linesIn, Fits};
 use calendar::Winter;
-use settlement::Event;
+use energy::Event;
 
 // How many numbers a line has: code, place, energy and cents.
 pub const LINE_NUMBERS: usize = 4;
@@ -22,8 +22,8 @@ fn put_line(out: &mut [u64], at: usize, event: Event, cents: u64)
     requires { ⌜ at + lineNumbers ≤ length (now out) ⌝ }
     ensures { λ _. ⌜ now (out .exit) ≡ sets (now (out .entry)) at (event .code ∷ event .place ∷ event .energy ∷ cents ∷ []) ⌝ }
 {
-    out[at] = event.code;
-    out[at + 1] = event.place;
+    out[at] = event.code as u64;
+    out[at + 1] = event.place as u64;
     out[at + 2] = event.energy;
     out[at + 3] = cents;
 }

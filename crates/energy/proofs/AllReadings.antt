@@ -16,7 +16,7 @@ use Rattle.book.specs.declared.values.Fault.the-variants.{Clean}
 use Rattle.laws.proofs.Every.{Every, joined, imply, mapped}
 use Rattle.laws.proofs.Guards.{both}
 use Rattle.energy.specs.HoursOf.{warmRun, eventRun}
-use Rattle.energy.specs.Line.{settled}
+use Rattle.energy.specs.Line.{byFault}
 use Rattle.energy.specs.Parts.{partsFault, highestAt, allReadings, partsEnergy, partsLine}
 use Rattle.energy.specs.Trimmed.{largestOf}
 use Rattle.energy.specs.declared.hours.Hours.{Hours}
@@ -70,7 +70,7 @@ all-clean xs ys ds parts first second =
 -- and so the event is settled
 pub clean-line : (day : ℕ) (refs : List ℕ) (hours : Hours) (event : List ℕ) (parts : List (List ℕ)) {energy : ℕ} → energy ≡ partsEnergy hours event parts
     → allReadings (event ∷ parts) (warmRun hours) ≡ true → allReadings (event ∷ parts) (eventRun hours) ≡ true
-    → settled energy ≡ partsLine day refs hours event parts
+    → byFault Clean energy ≡ partsLine day refs hours event parts
 unfolding partsLine
 clean-line day refs hours event parts e warm own =
-    rw (← all-clean (warmRun hours) (eventRun hours) (day ∷ refs) (event ∷ parts) warm own) (ap settled e)
+    rw (← all-clean (warmRun hours) (eventRun hours) (day ∷ refs) (event ∷ parts) warm own) (ap (byFault Clean) e)

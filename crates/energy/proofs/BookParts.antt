@@ -19,8 +19,6 @@ use Rattle.book.specs.declared.values.Fault.the-variants.{Clean}
 use Rattle.book.specs.declared.values.Fault.{Fault}
 use Rattle.calendar.specs.declared.answers.Winter.{Winter}
 use Rattle.laws.proofs.Every.{Every, joined, imply}
-use Rattle.laws.proofs.Refusals.{kept}
-use Rattle.laws.specs.Answer.{Answer}
 use Rattle.energy.specs.Asked.{needed}
 use Rattle.energy.specs.Energy.{trimmedAt, energyOf}
 use Rattle.energy.specs.HoursOf.{HoursIn, warmRun, eventRun, askedIn}
@@ -28,6 +26,7 @@ use Rattle.energy.specs.Line.{lineOf}
 use Rattle.energy.specs.Parts.{partsFault, trimmedIn, partsEnergy, partsLine}
 use Rattle.energy.specs.Ready.{DaysReady, PartsReady}
 use Rattle.energy.specs.Trimmed.{trimmedOf}
+use Rattle.energy.specs.declared.events.Event.{Event}
 use Rattle.energy.specs.declared.hours.Hours.{Hours}
 use Rattle.energy.proofs.HourLaws.{warm-hours, event-hours}
 use Rattle.energy.proofs.TrimmedLaws.{five}
@@ -91,7 +90,7 @@ module _ (book : List ℕ) (hours : Hours) (inside : HoursIn hours) (day : ℕ) 
 
   line-is : length refs ≡ 5 → partsLine day refs hours event parts ≡ lineOf book (askedIn day hours refs)
   unfolding lineOf needed partsLine
-  line-is five-refs = kept _ (le-ltb (length refs) 5 (omega arith)) (rw (fault-is, energy-is))
+  line-is five-refs = rw (le-ltb (length refs) 5 (omega arith), fault-is, energy-is)
 
 -- what six days that have their parts in the book ask of the rules on parts
 pub days-ready : (w : Winter) (n day : ℕ) (refs : List ℕ) (hours : Hours) → PartsReady w n day refs hours → DaysReady day refs hours
@@ -109,7 +108,7 @@ pub book-line : (book : List ℕ) (day : ℕ) (refs : List ℕ) (hours : Hours) 
     → PartOf book (getD refs 2 0) p2
     → PartOf book (getD refs 3 0) p3
     → PartOf book (getD refs 4 0) p4
-    → {a : Answer} → a ≡ partsLine day refs hours event (p0 ∷ p1 ∷ p2 ∷ p3 ∷ p4 ∷ []) → a ≡ lineOf book (askedIn day hours refs)
+    → {e : Event} → e ≡ partsLine day refs hours event (p0 ∷ p1 ∷ p2 ∷ p3 ∷ p4 ∷ []) → e ≡ lineOf book (askedIn day hours refs)
 book-line book day refs hours five-refs inside {event} {p0} {p1} {p2} {p3} {p4} is is0 is1 is2 is3 is4 e =
     let parts = p0 ∷ p1 ∷ p2 ∷ p3 ∷ p4 ∷ [] in
     let are = subst (λ (ds : List ℕ). AreParts book ds parts) (five refs five-refs) (is0, (is1, (is2, (is3, (is4, tt))))) in

@@ -1,10 +1,10 @@
 pub mod Agree
 pub mod AllReadings
 pub mod BookParts
+pub mod CallLaws
 pub mod DayFaults
 pub mod EnergyBound
 pub mod EventLaws
-pub mod Given
 pub mod HourLaws
 pub mod KindLaws
 pub mod LineLaws

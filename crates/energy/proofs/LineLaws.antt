@@ -12,8 +12,6 @@ use Rattle.book.proofs.PartLaws.{part-earlier}
 use Rattle.book.specs.Part.{noPart}
 use Rattle.calendar.specs.declared.answers.Winter.{Winter}
 use Rattle.laws.proofs.Every.{at}
-use Rattle.laws.proofs.Refusals.{refused}
-use Rattle.laws.specs.Answer.{Answer}
 use Rattle.notices.specs.declared.notices.Notice.{Notice}
 use Rattle.energy.specs.Asked.{askedBy}
 use Rattle.energy.specs.HoursOf.{HoursFor, askedIn}
@@ -21,6 +19,7 @@ use Rattle.energy.specs.Line.{unsettled, lineOf}
 use Rattle.energy.specs.Ready.{PartsReady}
 use Rattle.energy.specs.ReferenceDays.{serves, referenceDays}
 use Rattle.energy.specs.Search.{Finds}
+use Rattle.energy.specs.declared.events.Event.{Event}
 use Rattle.energy.specs.declared.hours.Hours.{Hours}
 use Rattle.energy.specs.declared.reference_days.Refs.{Refs}
 use Rattle.energy.proofs.Nearest.{Passes, refs-serve, refs-few}
@@ -32,7 +31,7 @@ module _ (w : Winter) (free : ℕ → Bool) (n : Notice) (r : Refs) (found : Fin
 
   pub line-few : (book : List ℕ) → r .count < 5 → unsettled 20 0 ≡ lineOf book (askedBy w free n)
   unfolding lineOf askedBy
-  line-few book few = refused _ _ (lt-ltb (length refs) 5 (omega (arith, found .counted)))
+  line-few book few = rw (lt-ltb (length refs) 5 (omega (arith, found .counted)))
 
   module _ (enough : 5 ≤ r .count) where
     five-refs : length refs ≡ 5
@@ -55,6 +54,6 @@ module _ (w : Winter) (free : ℕ → Bool) (n : Notice) (r : Refs) (found : Fin
       }
 
       -- what the code asks is what the event asks
-      pub line-five : (book : List ℕ) {a : Answer} → a ≡ lineOf book (askedIn (n .day) hours (r .days)) → a ≡ lineOf book (askedBy w free n)
+      pub line-five : (book : List ℕ) {e : Event} → e ≡ lineOf book (askedIn (n .day) hours (r .days)) → e ≡ lineOf book (askedBy w free n)
       unfolding askedBy
-      line-five book e = rw (← is .warm-are, ← is .event-are, ← days-are) e
+      line-five book q = rw (← is .warm-are, ← is .event-are, ← days-are) q

@@ -1,7 +1,7 @@
--- The line of an event: code, place and energy.
+-- The line of an event: code, place and energy; and the answer of the call on one event.
 -- Assumes nothing.
-use Prim.Native.Nat.{ℕ}
-use mathlib.Core.Bool.{not}
+use Prim.Native.Nat.{ℕ, zero, suc}
+use mathlib.Core.Bool.{not, cond}
 use mathlib.Core.List.{List, [], _∷_}
 use lib.Dec.{ltb}
 use lib.ListN.{length}
@@ -11,7 +11,7 @@ use Rattle.book.specs.declared.values.Fault.{Fault}
 use Rattle.book.specs.declared.values.Fault.the-variants.{Clean, Missing, TooLarge}
 use Rattle.calendar.specs.Days.{wrongWinter, inPeriod}
 use Rattle.calendar.specs.declared.answers.Winter.{Winter}
-use Rattle.laws.specs.Answer.{Answer, given, refusal, refuse}
+use Rattle.laws.specs.Table.{Row, row, firstOf}
 use Rattle.notices.specs.Hours.{badHours}
 use Rattle.notices.specs.Profiles.{figuresOf}
 use Rattle.notices.specs.declared.notices.Notice.{Notice}
@@ -19,42 +19,58 @@ use Rattle.notices.specs.declared.profiles.Profile.the-variants.{Credit}
 use Rattle.energy.specs.Asked.{Asked, askedBy, needed}
 use Rattle.energy.specs.Energy.{energyOf}
 use Rattle.energy.specs.ReferenceDays.{freeIn}
+use Rattle.energy.specs.declared.events.Event.{Event}
 use Rattle.energy.specs.declared.lines.Line.{Line}
 use Rattle.energy.specs.declared.lines.Line.the-variants as LineCase
 
--- a line on paper: code, place, energy. "An unsettled line has energy 0."
-abbrev pub settled : ℕ → Answer
-settled energy = given (0 ∷ 0 ∷ energy ∷ [])
+-- "0 settled"
+abbrev pub settled : ℕ → Event
+settled energy = record { code = 0; place = 0; energy = energy }
 
-abbrev pub unsettled : ℕ → ℕ → Answer
-unsettled code place = given (code ∷ place ∷ 0 ∷ [])
-
--- the paper's number and values for each case
-abbrev pub linePaper : Line → Answer
-linePaper (LineCase.Settled energy) = settled energy
-linePaper LineCase.FewDays = unsettled 20 0
-linePaper (LineCase.Missing place) = unsettled 21 place
-linePaper (LineCase.TooLarge place) = unsettled 22 place
-linePaper LineCase.NoWinter = refusal 1
-linePaper LineCase.BadBook = refusal 2
-linePaper LineCase.OutsidePeriod = refusal 10
-linePaper LineCase.BadHours = refusal 13
+-- "An unsettled line has energy 0."
+abbrev pub unsettled : ℕ → ℕ → Event
+unsettled code place = record { code = code; place = place; energy = 0 }
 
 -- by the first fault among the needed readings
-abbrev pub byFault : Fault → ℕ → Answer
+abbrev pub byFault : Fault → ℕ → Event
 byFault Clean energy = settled energy
 byFault (Missing p) energy = unsettled 21 p
 byFault (TooLarge p) energy = unsettled 22 p
 
 -- "20 fewer than five reference days"; "20 comes before 21 and 22."
-unfoldable pub lineOf : List ℕ → Asked → Answer
-lineOf book q = refuse (ltb (length (q .refs)) 5) (unsettled 20 0) (byFault (firstFault book (needed q)) (energyOf book q))
+unfoldable pub lineOf : List ℕ → Asked → Event
+lineOf book q = cond (ltb (length (q .refs)) 5) (unsettled 20 0) (byFault (firstFault book (needed q)) (energyOf book q))
 
--- the call on one event: a wrong winter, book, day or hours first
-unfoldable pub eventAnswer : Winter → List ℕ → List ℕ → Notice → Answer
-eventAnswer w book masks n =
-    refuse (wrongWinter w) (refusal 1)
-    (refuse (wrongLength (w .days) (length book)) (refusal 2)
-    (refuse (not (inPeriod w (n .day))) (refusal 10)
-    (refuse (badHours (figuresOf Credit) n) (refusal 13)
-    (lineOf book (askedBy w (freeIn masks) n)))))
+-- what the call on one event answers: the refusal number, 0 if there is none, and the event, of which a refusal says nothing
+pub record EventAnswer : Type 0 where
+  pub number : ℕ
+  pub event : Event
+
+abbrev pub told : ℕ → Event → EventAnswer
+told number event = record { number = number; event = event }
+
+-- the paper's number and event for each case
+abbrev pub linePaper : Line → EventAnswer
+linePaper (LineCase.Is event) = told 0 event
+linePaper LineCase.NoWinter = told 1 (settled 0)
+linePaper LineCase.BadBook = told 2 (settled 0)
+linePaper LineCase.OutsidePeriod = told 10 (settled 0)
+linePaper LineCase.BadHours = told 13 (settled 0)
+
+-- what refuses the call: a wrong winter, book, day or hours, by how many readings the book has
+unfoldable pub eventRows : Winter → ℕ → Notice → List Row
+eventRows w readings n =
+    row 1 0 (wrongWinter w)
+    ∷ row 2 0 (wrongLength (w .days) readings)
+    ∷ row 10 0 (not (inPeriod w (n .day)))
+    ∷ row 13 0 (badHours (figuresOf Credit) n)
+    ∷ []
+
+-- an event, where a number refuses nothing
+abbrev pub unlessRefused : ℕ → Event → EventAnswer
+unlessRefused zero event = told 0 event
+unlessRefused (suc number) event = told (suc number) (settled 0)
+
+-- the call on one event
+unfoldable pub eventAnswer : Winter → List ℕ → List ℕ → Notice → EventAnswer
+eventAnswer w book masks n = unlessRefused (firstOf (eventRows w (length book) n) .number) (lineOf book (askedBy w (freeIn masks) n))

@@ -8,11 +8,11 @@ use Rattle.book.specs.Readings.{readingAt, firstFault, sumOver}
 use Rattle.book.specs.Values.{isReading, orFault}
 use Rattle.book.specs.declared.values.Fault.{Fault}
 use Rattle.book.specs.declared.values.Fault.the-variants.{Clean}
-use Rattle.laws.specs.Answer.{Answer}
 use Rattle.energy.specs.HoursOf.{warmRun, eventRun}
 use Rattle.energy.specs.Line.{byFault}
 use Rattle.energy.specs.Spared.{sparedOf}
 use Rattle.energy.specs.Trimmed.{largestOf, trimmedOf}
+use Rattle.energy.specs.declared.events.Event.{Event}
 use Rattle.energy.specs.declared.hours.Hours.{Hours}
 
 -- a fault, or where there is none the first one of the same hours of some days, each told at its place in the book
@@ -44,6 +44,6 @@ partsEnergy hours event parts =
     (sumOver (readingAt event) (eventRun hours))
 
 -- the line, from the parts of the event day and of the reference days
-unfoldable pub partsLine : ℕ → List ℕ → Hours → List ℕ → List (List ℕ) → Answer
+unfoldable pub partsLine : ℕ → List ℕ → Hours → List ℕ → List (List ℕ) → Event
 partsLine day refs hours event parts =
     byFault (partsFault (warmRun hours ++ eventRun hours) Clean (day ∷ refs) (event ∷ parts)) (partsEnergy hours event parts)

@@ -6,11 +6,13 @@ ghost use lib.ListN.{length};
 ghost use Rattle.book.specs.Part.{noPart, PartOf};
 ghost use Rattle.energy.specs.Asked.{askedBy};
 ghost use Rattle.energy.specs.HoursOf.{HoursIn, askedIn};
-ghost use Rattle.energy.specs.Line.{linePaper, byFault, lineOf, eventAnswer};
+ghost use Rattle.energy.specs.Line.{linePaper, lineOf, eventAnswer};
 ghost use Rattle.energy.specs.Parts.{partsEnergy, partsLine};
 ghost use Rattle.energy.specs.Ready.{DaysReady, PartsReady, EventReady};
 ghost use Rattle.energy.specs.ReferenceDays.{freeIn};
 ghost use Rattle.energy.specs.Search.{OnDay};
+use crate::events::Event;
+use crate::events::by_fault;
 use crate::hours::Hours;
 use crate::hours::hours_of;
 use crate::needed::all_readings;
@@ -25,12 +27,9 @@ use calendar::Winter;
 use notices::Notice;
 use notices::Profile;
 
-// What an event comes to: its spared energy in eighteenths of a Wh, or why it is left unsettled, or why the call is refused.
+// What the call on one event answers: the event, or why it is refused.
 pub enum Line {
-    Settled(u64),
-    FewDays,
-    Missing(u32),
-    TooLarge(u32),
+    Is(Event),
     NoWinter,
     BadBook,
     OutsidePeriod,
@@ -60,17 +59,6 @@ fn energy(
     spared(h, w, r, b, a, c)
 }
 
-// The line of a fault, or of an energy where there is none.
-fn line_of(fault: Fault, energy: u64) -> Line
-    ensures { λ r. ⌜ linePaper r ≡ byFault fault energy ⌝ }
-{
-    match fault {
-        Fault::Clean => Line::Settled(energy),
-        Fault::Missing(place) => Line::Missing(place),
-        Fault::TooLarge(place) => Line::TooLarge(place),
-    }
-}
-
 // The line of an event by the parts of its day and of its five reference days. Nearly always all are readings, which a walk from hour to
 // hour tells sooner than one from day to day.
 fn line_of_parts(
@@ -83,19 +71,19 @@ fn line_of_parts(
     r2: &[u32],
     r3: &[u32],
     r4: &[u32],
-) -> Line
+) -> Event
     requires { ⌜ DaysReady day refs hours ⌝ }
-    ensures { λ r. ⌜ linePaper r ≡ partsLine day refs hours (now (event .entry))
+    ensures { λ r. ⌜ r ≡ partsLine day refs hours (now (event .entry))
         (now (r0 .entry) ∷ now (r1 .entry) ∷ now (r2 .entry) ∷ now (r3 .entry) ∷ now (r4 .entry) ∷ []) ⌝ }
 {
     let spared = energy(hours, event, r0, r1, r2, r3, r4);
     let warm = all_readings(event, r0, r1, r2, r3, r4, hours.warm, hours.pause);
     let own = all_readings(event, r0, r1, r2, r3, r4, hours.start, hours.end);
     if warm & own {
-        return Line::Settled(spared);
+        return by_fault(Fault::Clean, spared);
     }
     let fault = needed_fault(day, refs, hours, event, r0, r1, r2, r3, r4);
-    line_of(fault, spared)
+    by_fault(fault, spared)
 }
 
 // The part of a day that the book has, cut to its 24 readings: then the compiler knows how many there are, and tests for none.
@@ -108,9 +96,9 @@ fn part_of(w: Winter, book: &[u32], day: u32) -> &[u32]
 }
 
 // The line of an event whose reference days are known: each of the six days is fetched once.
-fn line_of_days(w: Winter, book: &[u32], day: u32, refs: [u32; 5], hours: Hours) -> Line
+fn line_of_days(w: Winter, book: &[u32], day: u32, refs: [u32; 5], hours: Hours) -> Event
     requires { ⌜ PartsReady w (length (now book)) day refs hours ⌝ }
-    ensures { λ r. ⌜ linePaper r ≡ lineOf (now (book .entry)) (askedIn day hours refs) ⌝ }
+    ensures { λ r. ⌜ r ≡ lineOf (now (book .entry)) (askedIn day hours refs) ⌝ }
 {
     let event = part_of(w, book, day);
     let r0 = part_of(w, book, refs[0]);
@@ -122,15 +110,19 @@ fn line_of_days(w: Winter, book: &[u32], day: u32, refs: [u32; 5], hours: Hours)
 }
 
 // The line of an event whose day is in the book and whose hours lie in a band: 20 comes before 21 and 22.
-fn line_in(w: Winter, kind: Kind, book: &[u32], masks: &[u32; 152], n: Notice) -> Line
+fn line_in(w: Winter, kind: Kind, book: &[u32], masks: &[u32; 152], n: Notice) -> Event
     requires { ⌜ EventReady w (length (now book)) kind n ⌝ }
-    ensures { λ r. ⌜ linePaper r ≡ lineOf (now (book .entry)) (askedBy w (freeIn (now (masks .entry))) n) ⌝ }
+    ensures { λ r. ⌜ r ≡ lineOf (now (book .entry)) (askedBy w (freeIn (now (masks .entry))) n) ⌝ }
 {
     let found = nearest(w, kind, masks, n.day);
     let count = found.count;
     let refs = found.days;
     if count < 5 {
-        return Line::FewDays;
+        return Event {
+            code: 20,
+            place: 0,
+            energy: 0,
+        };
     }
     let hours = hours_of(w, n.day, n.start, n.end);
     line_of_days(w, book, n.day, refs, hours)
@@ -150,7 +142,7 @@ fn settle_on(w: Winter, kind: Kind, book: &[u32], masks: &[u32; 152], n: Notice)
     if notices::bad_hours(Profile::Credit.figures(), n) {
         return Line::BadHours;
     }
-    line_in(w, kind, book, masks, n)
+    Line::Is(line_in(w, kind, book, masks, n))
 }
 
 // Settles one event of a winter, by the book and the masks of all events: code, place and energy. A wrong winter, book length, day or

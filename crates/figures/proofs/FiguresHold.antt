@@ -15,7 +15,7 @@ use Rattle.calendar.specs.Days.{wrongWinter, noDay, inPeriod}
 use Rattle.calendar.specs.WinterOf.{winterOf}
 use Rattle.energy.specs.Asked.{warmUp, askedBy, needed}
 use Rattle.energy.specs.Energy.{trimmedAt, energyOf}
-use Rattle.energy.specs.Line.{lineOf, eventAnswer}
+use Rattle.energy.specs.Line.{lineOf, eventRows, eventAnswer}
 use Rattle.energy.specs.ReferenceDays.{freeIn, serves, before, referenceDays}
 use Rattle.energy.specs.Spared.{trialOf, aboveLimit, sparedOf}
 use Rattle.energy.specs.Trimmed.{sumOf, smallestOf, largestOf, trimmedOf}
@@ -58,7 +58,7 @@ pub figures-hold : map (λ (f : Figure). f .paper) figures ≡ map (λ (f : Figu
 unfolding calendarFigures alsoExcluded alsoFrom easterSunday refuse noEasterYear easterT easterInBook among goodFriday easterMonday excluded leap days winterOf
     wrongWinter noDay scheduleFigures mornings hundredHours checkAnswer checkTable badList rowsAt noticeRows ownRows listRows firstOf sofarAt afterNotice
     noticeAt hoursOf named figuresOf outsidePeriod onExcludedDay barredWeekend outside badHours badLength startsBefore sameBand overLimit noWinter
-    inPeriod firstWeekday weekday weekend energyFigures sampleDay sampleBook sampleList eventAnswer lineOf askedBy warmUp hoursFrom needed placesOn
+    inPeriod firstWeekday weekday weekend energyFigures sampleDay sampleBook sampleList eventAnswer eventRows lineOf askedBy warmUp hoursFrom needed placesOn
     firstFault faultOf energyOf sumOver trimmedAt trimmedOf sumOf smallestOf largestOf sparedOf aboveLimit trialOf referenceDays before freeIn serves
     masksOf masksTo withHours marksNone hoursMask moneyFigures settlement settledBy written writtenBy refusalOf settlementTable callRows badBook badPrice
     shortOutput rowsTo lineAt centsAt sumTo eventAt roundedWorth textFigures bytesIn sampleInput sampleOutput twice statementOf formBytes valuesBytes

@@ -10,13 +10,12 @@ use lib.Seq.{take-at}
 use Rattle.laws.proofs.Every.{Every, joined}
 use Rattle.laws.proofs.RowLaws.{Wide, rows-none, rows-more, rows-long, rows-same, parts-same, all-rows}
 use Rattle.laws.specs.Rows.{rowsTo}
-use Rattle.notices.specs.Notices.{countOf, noticeAt}
+use Rattle.notices.specs.Notices.{countOf}
 use Rattle.numerals.specs.Lines.{Line, line}
 use Rattle.numerals.specs.Numbers.{numbersIn, numbersOf, numbersOfLines}
 use Rattle.numerals.proofs.ReadBack.{Plain, read-back, plain-line, number-back, numbers-back, numbers-none, numbers-one, numbers-more, numbers-append}
 use Rattle.printing.specs.Room.{printed, printedCount}
-use Rattle.printing.specs.Settled.{settledIn, numbersFor}
-use Rattle.printing.specs.Sheet.{refusedLines, refusedBytes, noticeLine, noticeLines, statementLines, statementBytes}
+use Rattle.printing.specs.Sheet.{refusedLines, refusedBytes, numbersAt, noticeLine, noticeLines, statementLines, statementBytes}
 
 -- so many bytes as are answered, from the front of the output, are what was to be printed
 pub shown : (bytes out : List ℕ) {cannot : Bool} → cannot ≡ false → take (printedCount cannot bytes) (printed cannot bytes out) ≡ bytes
@@ -47,7 +46,7 @@ module _ (l out : List ℕ) where
 
   lines-plain : (k : ℕ) → Every Plain (noticeLines l out k)
   unfolding noticeLine
-  lines-plain n = all-rows Plain lineRow n (λ k h. (plain-line "line=" (numbersFor (noticeAt l k) (settledIn out k)) refl, tt))
+  lines-plain n = all-rows Plain lineRow n (λ k h. (plain-line "line=" (numbersAt l out k) refl, tt))
 
   -- the numbers of the lines are rows of seven
   sevens : (k : ℕ) → numbersOfLines (noticeLines l out k) ≡ rowsTo numberRow k

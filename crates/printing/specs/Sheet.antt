@@ -2,18 +2,21 @@
 -- Assumes nothing.
 use Prim.Native.Nat.{ℕ}
 use mathlib.Core.List.{List, [], _∷_, _++_}
+use Rattle.credit.specs.Printed.{lineIn}
 use Rattle.laws.specs.Rows.{rowsTo}
 use Rattle.notices.specs.Notices.{countOf, noticeAt}
 use Rattle.numerals.specs.Lines.{Line, line, bytesOfLines}
-use Rattle.printing.specs.Settled.{settledIn, lineFor}
 
 -- "A refused text prints only the line `refused=number,place`, ended the same way."
 unfoldable pub refusedLines : ℕ → ℕ → List Line
 refusedLines number place = line "refused=" (number ∷ place ∷ []) ∷ []
 
--- the line of the notice at index k, from the list and the settlement's output
+-- "`line=` holds day, s, e, code, place, energy, cents.", of the notice at index k, from the list and the settlement's output
+abbrev pub numbersAt : List ℕ → List ℕ → ℕ → List ℕ
+numbersAt l out k = noticeAt l k .day ∷ noticeAt l k .start ∷ noticeAt l k .end ∷ lineIn out k
+
 unfoldable pub noticeLine : List ℕ → List ℕ → ℕ → Line
-noticeLine l out k = lineFor (noticeAt l k) (settledIn out k)
+noticeLine l out k = line "line=" (numbersAt l out k)
 
 -- "one `line=` for each notice", of the first k
 abbrev pub noticeLines : List ℕ → List ℕ → ℕ → List Line

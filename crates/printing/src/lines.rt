@@ -6,51 +6,33 @@ ghost use Rattle.numerals.specs.Lines.{lineBytes, bytesOfLines};
 ghost use Rattle.credit.specs.Lines.{lineNumbers};
 ghost use Rattle.numerals.specs.Put.{Put};
 ghost use Rattle.printing.specs.Room.{lineRoom};
-ghost use Rattle.printing.specs.Settled.{settledIn, lineFor};
-ghost use Rattle.printing.specs.Sheet.{noticeLines};
-use notices::Notice;
+ghost use Rattle.printing.specs.Sheet.{numbersAt, noticeLine, noticeLines};
 
-// What a settlement holds of a notice.
-pub struct Settled {
-    pub code: u64,
-    pub place: u64,
-    pub energy: u64,
-    pub cents: u64,
-}
-
-// The four numbers of the notice at index k.
-fn settled_at(lines: &[u64], k: usize) -> Settled
+// The numbers of the line of the notice at index k: its own, and those that the settlement's lines hold of it.
+fn numbers_at(list: &[u32], lines: &[u64], k: usize) -> [u64; 7]
     requires { ⌜ lineNumbers * k + lineNumbers ≤ length (now lines) ⌝ }
-    ensures { λ r. ⌜ r ≡ settledIn (now (lines .entry)) k ⌝ }
+    ensures { λ r. ⌜ r ≡ numbersAt (now (list .entry)) (now (lines .entry)) k ⌝ }
 {
+    let notice = notices::notice_at(list, k);
     let at = credit::LINE_NUMBERS * k;
-    let code = lines[at];
-    let place = lines[at + 1];
-    let energy = lines[at + 2];
-    let cents = lines[at + 3];
-    Settled {
-        code,
-        place,
-        energy,
-        cents,
-    }
-}
-
-// Puts the line of a notice: its three numbers, and the four that a settlement holds of it.
-fn put_line(out: &mut [u8], at: usize, notice: Notice, settled: Settled) -> usize
-    requires { ⌜ at + lineRoom ≤ length (now out) ⌝ }
-    ensures { λ r. ⌜ Put (now (out .entry)) at (lineBytes (lineFor notice settled)) r (now (out .exit)) ⌝ }
-    ensures { λ r. ⌜ r ≤ at + lineRoom ⌝ }
-{
-    let numbers = [
+    [
         notice.day as u64,
         notice.start as u64,
         notice.end as u64,
-        settled.code,
-        settled.place,
-        settled.energy,
-        settled.cents,
-    ];
+        lines[at],
+        lines[at + 1],
+        lines[at + 2],
+        lines[at + 3],
+    ]
+}
+
+// Puts the line of the notice at index k.
+fn put_notice(out: &mut [u8], at: usize, list: &[u32], lines: &[u64], k: usize) -> usize
+    requires { ⌜ (lineNumbers * k + lineNumbers ≤ length (now lines)) × (at + lineRoom ≤ length (now out)) ⌝ }
+    ensures { λ r. ⌜ Put (now (out .entry)) at (lineBytes (noticeLine (now (list .entry)) (now (lines .entry)) k)) r (now (out .exit)) ⌝ }
+    ensures { λ r. ⌜ r ≤ at + lineRoom ⌝ }
+{
+    let numbers = numbers_at(list, lines, k);
     numerals::put_line(out, at, b"line=", &numbers)
 }
 
@@ -63,9 +45,7 @@ pub(crate) fn put_lines(out: &mut [u8], at: usize, list: &[u32], lines: &[u64], 
     let mut next = at;
     let mut k: usize = 0;
     while k < n {
-        let notice = notices::notice_at(list, k);
-        let settled = settled_at(lines, k);
-        next = put_line(out, next, notice, settled);
+        next = put_notice(out, next, list, lines, k);
         k += 1;
     }
     next

@@ -9,9 +9,11 @@ use Rattle.book.specs.Part.{dayReadings}
 use Rattle.calendar.specs.declared.answers.Known.the-variants.{Is, NoWinter}
 use Rattle.calendar.specs.declared.answers.Known.{Known}
 use Rattle.calendar.specs.declared.answers.Winter.{Winter}
+use Rattle.energy.specs.Line.{EventAnswer, linePaper}
+use Rattle.energy.specs.declared.lines.Line.the-variants as LineCase
 use Rattle.laws.proofs.Refusals.{refused, kept}
 use Rattle.laws.specs.Answer.{Answer, refusal}
-use Rattle.probe.specs.Told.{ofYear, partOf}
+use Rattle.probe.specs.Told.{ofYear, eventOfYear, partOf}
 
 module _ (y : ℕ) (r : Known) (k : knownPaper r ≡ winterFacts y) where
   pub no-year : (f : Winter → Answer) → r ≡ NoWinter → refusal 1 ≡ ofYear y f
@@ -21,6 +23,14 @@ module _ (y : ℕ) (r : Known) (k : knownPaper r ≡ winterFacts y) where
   pub of-year : (f : Winter → Answer) (w : Winter) {a : Answer} → r ≡ Is w → a ≡ f w → a ≡ ofYear y f
   unfolding ofYear
   of-year f w q e = let is = winter-known y r w q k in kept (refusal 1) (is .0) (e ∙ ap f (is .1))
+
+  pub no-event : (f : Winter → EventAnswer) → r ≡ NoWinter → linePaper LineCase.NoWinter ≡ eventOfYear y f
+  unfolding eventOfYear
+  no-event f q = rw (no-winter-known y r q k)
+
+  pub event-of : (f : Winter → EventAnswer) (w : Winter) {a : EventAnswer} → r ≡ Is w → a ≡ f w → a ≡ eventOfYear y f
+  unfolding eventOfYear
+  event-of f w q e = let is = winter-known y r w q k in rw (is .0) (e ∙ ap f (is .1))
 
   pub no-part-of : (book : List ℕ) (d : ℕ) → r ≡ NoWinter → [] ≡ partOf y book d
   unfolding partOf

@@ -8,6 +8,8 @@ use Rattle.book.specs.Part.{dayReadings}
 use Rattle.calendar.specs.WinterOf.{winterOf}
 use Rattle.calendar.specs.declared.answers.Winter.{Winter}
 use Rattle.dates.specs.Winters.{noWinter}
+use Rattle.energy.specs.Line.{EventAnswer, linePaper}
+use Rattle.energy.specs.declared.lines.Line.the-variants.{NoWinter}
 use Rattle.laws.specs.Answer.{Answer, refusal, refuse}
 
 -- the first two values, each 2 ^ 16 times as high as the next
@@ -23,13 +25,21 @@ told a = a .number * 4294967296 + packed (a .values)
 abbrev pub kindTold : Answer → ℕ
 kindTold a = a .number * 4294967296 + (4 * getD (a .values) 0 0 + 2 * getD (a .values) 1 0 + getD (a .values) 2 0)
 
--- of the answer on an event, whose values are code, place and energy, the third
-abbrev pub energyTold : Answer → ℕ
-energyTold a = getD (a .values) 2 0
+-- of the answer on an event, its code and place
+abbrev pub faultTold : EventAnswer → ℕ
+faultTold a = a .number * 4294967296 + (a .event .code * 65536 + a .event .place)
+
+-- and its energy
+abbrev pub energyTold : EventAnswer → ℕ
+energyTold a = a .event .energy
 
 -- what is asked of a winter's facts, asked of a year
 unfoldable pub ofYear : ℕ → (Winter → Answer) → Answer
 ofYear y f = refuse (noWinter y) (refusal 1) (f (winterOf y))
+
+-- the same of an event
+unfoldable pub eventOfYear : ℕ → (Winter → EventAnswer) → EventAnswer
+eventOfYear y f = cond (noWinter y) (linePaper NoWinter) (f (winterOf y))
 
 unfoldable pub partOf : ℕ → List ℕ → ℕ → List ℕ
 partOf y book d = cond (noWinter y) [] (dayReadings (winterOf y) book d)

@@ -3,17 +3,10 @@ ghost use mathlib.Core.Path.{_≡_};
 ghost use Rattle.energy.specs.Line.{linePaper, eventAnswer};
 ghost use Rattle.calendar.specs.declared.answers.Winter.{Winter};
 ghost use Rattle.event_hours.specs.Days.{masksOf};
-ghost use Rattle.probe.specs.Told.{told, energyTold, ofYear};
+ghost use Rattle.probe.specs.Told.{faultTold, energyTold, eventOfYear};
 use calendar::Known;
 use energy::Line;
 use notices::Notice;
-
-// Code 20, and codes 21 and 22 before their place.
-const FEW_DAYS: u64 = 20 * 65536;
-
-const MISSING: u64 = 21 * 65536;
-
-const TOO_LARGE: u64 = 22 * 65536;
 
 // Refusals 1, 2, 10 and 13.
 const NO_WINTER: u64 = 4294967296;
@@ -26,13 +19,10 @@ const BAD_HOURS: u64 = 13 * 4294967296;
 
 // The code and place of a line, or its refusal.
 fn fault_of(line: Line) -> u64
-    ensures { λ r. ⌜ r ≡ told (linePaper line) ⌝ }
+    ensures { λ r. ⌜ r ≡ faultTold (linePaper line) ⌝ }
 {
     match line {
-        Line::Settled(_) => 0,
-        Line::FewDays => FEW_DAYS,
-        Line::Missing(place) => MISSING + place as u64,
-        Line::TooLarge(place) => TOO_LARGE + place as u64,
+        Line::Is(event) => event.code as u64 * 65536 + event.place as u64,
         Line::NoWinter => NO_WINTER,
         Line::BadBook => BAD_BOOK,
         Line::OutsidePeriod => OUTSIDE_PERIOD,
@@ -45,10 +35,7 @@ fn energy_of(line: Line) -> u64
     ensures { λ r. ⌜ r ≡ energyTold (linePaper line) ⌝ }
 {
     match line {
-        Line::Settled(energy) => energy,
-        Line::FewDays => 0,
-        Line::Missing(_) => 0,
-        Line::TooLarge(_) => 0,
+        Line::Is(event) => event.energy,
         Line::NoWinter => 0,
         Line::BadBook => 0,
         Line::OutsidePeriod => 0,
@@ -58,7 +45,7 @@ fn energy_of(line: Line) -> u64
 
 // The line of an event, by the masks of a list.
 fn line_of(winter: u32, book: &[u32], list: &[u32], day: u32, start: u32, end: u32) -> Line
-    ensures { λ r. ⌜ linePaper r ≡ ofYear winter (λ (w : Winter). eventAnswer w (now (book .entry)) (masksOf (now (list .entry)))
+    ensures { λ r. ⌜ linePaper r ≡ eventOfYear winter (λ (w : Winter). eventAnswer w (now (book .entry)) (masksOf (now (list .entry)))
         (record { day = day; start = start; end = end })) ⌝ }
 {
     let known = calendar::winter_of(winter);
@@ -79,7 +66,7 @@ pub extern "C" fn probe_event_fault(
     start: u32,
     end: u32,
 ) -> u64
-    ensures { λ r. ⌜ r ≡ told (ofYear winter (λ (w : Winter). eventAnswer w (now (book .entry)) (masksOf (now (list .entry)))
+    ensures { λ r. ⌜ r ≡ faultTold (eventOfYear winter (λ (w : Winter). eventAnswer w (now (book .entry)) (masksOf (now (list .entry)))
         (record { day = day; start = start; end = end }))) ⌝ }
 {
     fault_of(line_of(winter, book, list, day, start, end))
@@ -95,7 +82,7 @@ pub extern "C" fn probe_event_energy(
     start: u32,
     end: u32,
 ) -> u64
-    ensures { λ r. ⌜ r ≡ energyTold (ofYear winter (λ (w : Winter). eventAnswer w (now (book .entry)) (masksOf (now (list .entry)))
+    ensures { λ r. ⌜ r ≡ energyTold (eventOfYear winter (λ (w : Winter). eventAnswer w (now (book .entry)) (masksOf (now (list .entry)))
         (record { day = day; start = start; end = end }))) ⌝ }
 {
     energy_of(line_of(winter, book, list, day, start, end))

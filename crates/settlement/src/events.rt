@@ -1,46 +1,37 @@
 // The events of a winter's notices.
 ghost use mathlib.Core.Path.{_≡_};
-ghost use Rattle.energy.specs.Line.{linePaper};
-ghost use Rattle.settlement.specs.Events.{eventOf, eventIn};
+ghost use Rattle.energy.specs.Line.{settled, linePaper};
+ghost use Rattle.settlement.specs.Events.{eventIn};
 use calendar::Winter;
+use energy::Event;
 use energy::Line;
 
-// An event of an accepted list: its code, its place and its spared energy.
-pub struct Event {
-    pub code: u64,
-    pub place: u64,
-    pub energy: u64,
-}
-
-// An event of these three numbers.
-fn event_with(code: u64, place: u64, energy: u64) -> Event
-    ensures { λ r. ⌜ r ≡ record { code = code; place = place; energy = energy } ⌝ }
+// The event of a line that is refused. It is never an accepted list's, and says nothing.
+fn no_event() -> Event
+    ensures { λ r. ⌜ r ≡ settled 0 ⌝ }
 {
     Event {
-        code,
-        place,
-        energy,
+        code: 0,
+        place: 0,
+        energy: 0,
     }
 }
 
-// Code, place and energy of a line. The refused cases are never an accepted list's; they hold nothing.
+// The event of a line.
 fn event_of(line: Line) -> Event
-    ensures { λ r. ⌜ r ≡ eventOf (linePaper line) ⌝ }
+    ensures { λ r. ⌜ r ≡ linePaper line .event ⌝ }
 {
     match line {
-        Line::Settled(energy) => event_with(0, 0, energy),
-        Line::FewDays => event_with(20, 0, 0),
-        Line::Missing(place) => event_with(21, place as u64, 0),
-        Line::TooLarge(place) => event_with(22, place as u64, 0),
-        Line::NoWinter => event_with(0, 0, 0),
-        Line::BadBook => event_with(0, 0, 0),
-        Line::OutsidePeriod => event_with(0, 0, 0),
-        Line::BadHours => event_with(0, 0, 0),
+        Line::Is(event) => event,
+        Line::NoWinter => no_event(),
+        Line::BadBook => no_event(),
+        Line::OutsidePeriod => no_event(),
+        Line::BadHours => no_event(),
     }
 }
 
 // The event that the notice at index k is, its start and length taken from its day's bits. Where winter, book, masks, list and index make no
-// event it holds nothing.
+// event it says nothing.
 pub fn event_at(w: Winter, book: &[u32], masks: &[u32; 152], list: &[u32], k: usize) -> Event
     ensures { λ r. ⌜ r ≡ eventIn w (now (book .entry)) (now (masks .entry)) (now (list .entry)) k ⌝ }
 {

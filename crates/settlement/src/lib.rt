@@ -1,5 +1,4 @@
 // The settlement of a winter's notices: a code, a place and a spared energy each.
 mod events;
 
-pub use events::Event;
 pub use events::event_at;

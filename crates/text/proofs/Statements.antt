@@ -11,7 +11,9 @@ use lib.ListN.{length, replicate, length-replicate}
 use borrow.Author.Tests.{eq-eqb, le-ltb}
 use Rattle.calendar.specs.WinterOf.{winterOf}
 use Rattle.dates.specs.Winters.{noWinter, days}
-use Rattle.energy.specs.Line.{eventAnswer}
+use Rattle.energy.specs.Asked.{askedBy}
+use Rattle.energy.specs.Line.{lineOf}
+use Rattle.energy.specs.ReferenceDays.{freeIn}
 use Rattle.event_hours.specs.Days.{masksOf}
 use Rattle.form.proofs.Converse.{Held, form-written}
 use Rattle.form.proofs.Begins.{FirstBroken}
@@ -23,10 +25,9 @@ use Rattle.form.specs.Form.{formOf}
 use Rattle.form.specs.Places.{bookDays, misplacedLineIn, bookIn}
 use Rattle.form.specs.declared.whole.Form.{Form}
 use Rattle.form.specs.declared.whole.Form.the-variants as form
-use Rattle.laws.specs.Answer.{given}
 use Rattle.credit.proofs.Demands.{run-within-a-cent, first-run-within-half, cents-add-up, energies-add-up, line-is-answer}
 use Rattle.money.proofs.WorthLaws.{Near, NearHalf}
-use Rattle.credit.specs.Printed.{codeIn, placeIn, energyIn, centsIn}
+use Rattle.credit.specs.Printed.{energyIn, centsIn, eventTold}
 use Rattle.laws.specs.Sums.{runOf}
 use Rattle.credit.specs.Settlement.{settlement, written}
 use Rattle.money.specs.Worth.{centParts, exactWorth}
@@ -117,7 +118,7 @@ module _ (w p : ℕ) (book l : List ℕ) (ok : settlement w book p l (roomFor l)
 
   -- DEMAND 2 and DEMAND 3 of the numbers that are printed
   pub printed-answer : (k : ℕ) → k < countOf l
-      → eventAnswer (winterOf w) book (masksOf l) (noticeAt l k) ≡ given (codeIn lines k ∷ placeIn lines k ∷ energyIn lines k ∷ [])
+      → eventTold lines k ≡ lineOf book (askedBy (winterOf w) (freeIn (masksOf l)) (noticeAt l k))
   printed-answer = line-is-answer w p book l room accepted
 
   pub printed-run : (i k : ℕ) → i + k ≤ countOf l → Near (centParts * runOf (centsIn lines) i k) (exactWorth p (runOf (energyIn lines) i k)) centParts

@@ -8,11 +8,17 @@ use Rattle.laws.proofs.Stores.{stores-in-a-row}
 use Rattle.credit.proofs.lines.put_line.Statement.{statement}
 use Rattle.credit.proofs.lines.put_line.Tie as tie
 
+cast-out : tie.Need-cast-out
+cast-out c = search needs
+
 mul-out : tie.Need-mul-out
 mul-out c = search needs
 
 slice-write-out : tie.Need-slice-write-out
 slice-write-out c = search needs
+
+cast-out-2 : tie.Need-cast-out-2
+cast-out-2 c = search needs
 
 add-out : tie.Need-add-out
 add-out c = search needs
@@ -46,15 +52,18 @@ same-length c = search needs
 
 returns : tie.Need-returns
 returns c =
-    let event = c .args .event in
-    stores-in-a-row (c .args .out .now) (c .args .at) (event .code ∷ event .place ∷ event .energy ∷ c .args .cents ∷ [])
+    let asked = c .before .before .args in
+    let event = asked .event in
+    stores-in-a-row (asked .out .now) (asked .at) (event .code ∷ event .place ∷ event .energy ∷ asked .cents ∷ [])
 
 pub put-line-spec : {M : Type 1} → statement M
 put-line-spec =
     tie.close
     (tie.spec
+    cast-out
     mul-out
     slice-write-out
+    cast-out-2
     add-out
     mul-out-2
     slice-write-out-2

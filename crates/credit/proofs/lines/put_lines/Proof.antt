@@ -21,7 +21,7 @@ use Rattle.money.proofs.WorthLaws.{worth-zero, worth-grows}
 use Rattle.money.specs.Worth.{roundedWorth, mostEnergy, worthOf}
 use Rattle.settlement.proofs.EventLaws.{energies-bounded}
 use Rattle.settlement.specs.Events.{eventIn, energyAt}
-use Rattle.settlement.specs.declared.events.Event.{Event}
+use Rattle.energy.specs.declared.events.Event.{Event}
 use Rattle.credit.specs.Lines.{lineNumbers, lineAt}
 use Rattle.credit.specs.Settlement.{Fits}
 use Rattle.credit.proofs.LineLaws.{line-wide, total-few}

@@ -1,5 +1,6 @@
 -- `line_of_parts` settles the event where all are readings, and else answers by the first fault, or by the energy where there is none.
 -- Assumes nothing.
+use mathlib.Core.Path.{_∙_}
 use Rattle.laws.proofs.Guards.{both, found}
 use Rattle.energy.specs.Parts.{partsLine}
 use Rattle.energy.proofs.AllReadings.{clean-line}
@@ -16,26 +17,31 @@ all-readings-requires c κs = search needs
 all-readings-requires-2 : tie.Need-all-readings-requires-2
 all-readings-requires-2 c κs = search needs
 
+by-fault-requires : tie.Need-by-fault-requires
+by-fault-requires c κs = search needs
+
 returns : tie.Need-returns
 returns c =
-    let own = c .before in
+    let test = c .before in
+    let own = test .before in
     let warm = own .before in
-    let readings = both (warm .all-readings .result) (own .all-readings2 .result) (c .if1 .taken) in
-    clean-line _ _ _ _ _ (warm .before .energy .ensures) (found (warm .all-readings .ensures) (readings .0))
+    let readings = both (warm .all-readings .result) (own .all-readings2 .result) (test .if1 .taken) in
+    c .by-fault .ensures
+    ∙ clean-line _ _ _ _ _ (warm .before .energy .ensures) (found (warm .all-readings .ensures) (readings .0))
     (found (own .all-readings2 .ensures) (readings .1))
 
 needed-fault-requires : tie.Need-needed-fault-requires
 needed-fault-requires c κs = search needs
 
-line-of-requires : tie.Need-line-of-requires
-line-of-requires c κs = search needs
+by-fault-requires-2 : tie.Need-by-fault-requires-2
+by-fault-requires-2 c κs = search needs
 
 returns-2 : tie.Need-returns-2
 unfolding partsLine
 returns-2 c =
     let looked = c .before in
     let worked = looked .before .before .before .before in
-    rw (← worked .energy .ensures, ← looked .needed-fault .ensures) (c .line-of .ensures)
+    rw (← worked .energy .ensures, ← looked .needed-fault .ensures) (c .by-fault2 .ensures)
 
 pub line-of-parts-spec : {M : Type 1} → statement M
 line-of-parts-spec =
@@ -44,7 +50,8 @@ line-of-parts-spec =
     energy-requires
     all-readings-requires
     all-readings-requires-2
+    by-fault-requires
     returns
     needed-fault-requires
-    line-of-requires
+    by-fault-requires-2
     returns-2)

@@ -3,8 +3,9 @@
 -- Assumes nothing.
 use Rattle.calendar.proofs.OneOutcome.{wrong-known}
 use Rattle.laws.proofs.Guards.{found}
-use Rattle.laws.proofs.Refusals.{refused, kept}
-use Rattle.energy.specs.Line.{eventAnswer}
+use Rattle.laws.proofs.Tables.{row-stops, row-goes}
+use Rattle.energy.specs.Line.{eventRows}
+use Rattle.energy.proofs.CallLaws.{call-refused}
 use Rattle.energy.proofs.KindLaws.{told-day, told-past}
 use borrow.Author.Needs.{needs}
 use Rattle.energy.proofs.lines.settle_event.Statement.{statement}
@@ -31,29 +32,30 @@ wrong-length-requires : tie.Need-wrong-length-requires
 wrong-length-requires c κs = search needs
 
 returns : tie.Need-returns
-unfolding eventAnswer
+unfolding eventRows
 returns c =
     let length = c .before in
     let past = length .before in
     let told = told-past _ _ _ (past .enum-told2 .given .1) (past .before .before .kind-of .ensures) in
-    kept _ (told .right) (refused _ _ (found (length .wrong-length .ensures) (c .if1 .taken)))
+    call-refused _ _ _ _ (row-goes _ _ (told .right) (row-stops _ _ (found (length .wrong-length .ensures) (c .if1 .taken))))
 
 returns-2 : tie.Need-returns-2
 returns-2 c = search needs
 
 returns-3 : tie.Need-returns-3
-unfolding eventAnswer
+unfolding eventRows
 returns-3 c =
     let asked = c .before .before in
-    refused _ _ (wrong-known _ _ _ (c .enum-told .given .1) (asked .kind-of .ensures))
+    call-refused _ _ _ _ (row-stops _ _ (wrong-known _ _ _ (c .enum-told .given .1) (asked .kind-of .ensures)))
 
 returns-4 : tie.Need-returns-4
-unfolding eventAnswer
+unfolding eventRows
 returns-4 c =
     let length = c .before in
     let past = length .before in
     let told = told-past _ _ _ (past .enum-told2 .given .1) (past .before .before .kind-of .ensures) in
-    kept _ (told .right) (kept _ (found (length .wrong-length .ensures) (c .if1 .left)) (refused _ _ (told .no-period)))
+    let right-length = found (length .wrong-length .ensures) (c .if1 .left) in
+    call-refused _ _ _ _ (row-goes _ _ (told .right) (row-goes _ _ right-length (row-stops _ _ (told .no-period))))
 
 pub settle-event-spec : {M : Type 1} → statement M
 settle-event-spec =

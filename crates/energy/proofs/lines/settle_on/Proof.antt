@@ -3,8 +3,9 @@
 -- Assumes nothing.
 use Rattle.book.proofs.PartLaws.{part-there}
 use Rattle.laws.proofs.Guards.{found}
-use Rattle.laws.proofs.Refusals.{refused, kept}
-use Rattle.energy.specs.Line.{eventAnswer}
+use Rattle.laws.proofs.Tables.{row-stops, row-goes}
+use Rattle.energy.specs.Line.{eventRows}
+use Rattle.energy.proofs.CallLaws.{call-refused, call-settled}
 use Rattle.energy.proofs.HourLaws.{in-band}
 use borrow.Author.Needs.{needs}
 use Rattle.energy.proofs.lines.settle_on.Statement.{statement}
@@ -14,21 +15,22 @@ wrong-length-requires : tie.Need-wrong-length-requires
 wrong-length-requires c κs = search needs
 
 returns : tie.Need-returns
-unfolding eventAnswer
+unfolding eventRows
 returns c =
     let length = c .before in
     let day = length .before .before .pre in
-    kept _ (day .day .right) (refused _ _ (found (length .wrong-length .ensures) (c .if1 .taken)))
+    call-refused _ _ _ _ (row-goes _ _ (day .day .right) (row-stops _ _ (found (length .wrong-length .ensures) (c .if1 .taken))))
 
 returns-2 : tie.Need-returns-2
-unfolding eventAnswer
+unfolding eventRows
 returns-2 c =
     let whole = c .before .before in
     let length = whole .before in
     let day = length .before .before .pre in
-    kept _ (day .day .right)
-    (kept _ (found (length .wrong-length .ensures) (whole .if1 .left))
-    (refused _ _ (rw (← day .period) (c .if2 .taken))))
+    call-refused _ _ _ _
+    (row-goes _ _ (day .day .right)
+    (row-goes _ _ (found (length .wrong-length .ensures) (whole .if1 .left))
+    (row-stops _ _ (rw (← day .period) (c .if2 .taken)))))
 
 figures-requires : tie.Need-figures-requires
 figures-requires c κs = search needs
@@ -37,7 +39,7 @@ bad-hours-requires : tie.Need-bad-hours-requires
 bad-hours-requires c κs = search needs
 
 returns-3 : tie.Need-returns-3
-unfolding eventAnswer
+unfolding eventRows
 returns-3 c =
     let hours = c .before in
     let figures = hours .before in
@@ -45,10 +47,11 @@ returns-3 c =
     let whole = period .before .before in
     let length = whole .before in
     let day = length .before .before .pre in
-    kept _ (day .day .right)
-    (kept _ (found (length .wrong-length .ensures) (whole .if1 .left))
-    (kept _ (rw (← day .period) (period .if2 .left))
-    (refused _ _ (rw (← figures .figures .ensures) (found (hours .bad-hours .ensures) (c .if3 .taken))))))
+    call-refused _ _ _ _
+    (row-goes _ _ (day .day .right)
+    (row-goes _ _ (found (length .wrong-length .ensures) (whole .if1 .left))
+    (row-goes _ _ (rw (← day .period) (period .if2 .left))
+    (row-stops _ _ (rw (← figures .figures .ensures) (found (hours .bad-hours .ensures) (c .if3 .taken)))))))
 
 line-in-requires : tie.Need-line-in-requires
 line-in-requires c κs =
@@ -64,7 +67,7 @@ line-in-requires c κs =
     }
 
 returns-4 : tie.Need-returns-4
-unfolding eventAnswer
+unfolding eventRows
 returns-4 c =
     let in-hours = c .before in
     let hours = in-hours .before in
@@ -73,10 +76,18 @@ returns-4 c =
     let whole = period .before .before in
     let length = whole .before in
     let day = length .before .before .pre in
-    kept _ (day .day .right)
-    (kept _ (found (length .wrong-length .ensures) (whole .if1 .left))
-    (kept _ (rw (← day .period) (period .if2 .left))
-    (kept _ (rw (← figures .figures .ensures) (found (hours .bad-hours .ensures) (in-hours .if3 .left))) (c .line-in .ensures))))
+    let right-length = found (length .wrong-length .ensures) (whole .if1 .left) in
+    call-settled _ _ _ _ (
+      day .day .right,
+      (
+        right-length,
+        (
+          rw (← day .period) (period .if2 .left),
+          (rw (← figures .figures .ensures) (found (hours .bad-hours .ensures) (in-hours .if3 .left)), tt),
+        ),
+      ),
+    )
+    (c .line-in .ensures)
 
 pub settle-on-spec : {M : Type 1} → statement M
 settle-on-spec =

@@ -8,25 +8,20 @@ use native.Mathlib.Omega.{arith}
 use lib.ListN.{length}
 use borrow.Author.Needs.{needs}
 use Rattle.laws.proofs.RowLaws.{rows-none, rows-more}
-use Rattle.notices.specs.Notices.{noticeAt}
-use Rattle.notices.specs.declared.notices.Notice.{Notice}
 use Rattle.numerals.specs.Lines.{lineBytes, bytesOfLines}
 use Rattle.numerals.specs.Put.{Put}
-use Rattle.printing.specs.Settled.{settledIn, lineFor}
 use Rattle.printing.specs.Sheet.{noticeLine, noticeLines}
-use Rattle.printing.specs.declared.lines.Settled.{Settled}
 use Rattle.numerals.proofs.PutLaws.{put-length, put-none, put-last, put-both}
 use Rattle.printing.proofs.lines.put_lines.Statement.{statement}
 use Rattle.printing.proofs.lines.put_lines.Tie as tie
 
 -- a turn: one line more
-lines-next : (l out : List ℕ) (k : ℕ) {before now after : List ℕ} {i p q : ℕ} {n : Notice} {s : Settled} → n ≡ noticeAt l k → s ≡ settledIn out k
-    → Put before i (bytesOfLines (noticeLines l out k)) p now → Put now p (lineBytes (lineFor n s)) q after
+lines-next : (l out : List ℕ) (k : ℕ) {before now after : List ℕ} {i p q : ℕ} → Put before i (bytesOfLines (noticeLines l out k)) p now
+    → Put now p (lineBytes (noticeLine l out k)) q after
     → Put before i (bytesOfLines (noticeLines l out (k + 1))) q after
-unfolding noticeLine
-lines-next l out k e f a b =
+lines-next l out k a b =
     rw (add-one k, rows-more (λ (i : ℕ). noticeLine l out i ∷ []) k)
-    (put-both (noticeLines l out k) (noticeLine l out k ∷ []) a (put-last _ (rw (e, f) at b)))
+    (put-both (noticeLines l out k) (noticeLine l out k ∷ []) a (put-last _ b))
 
 -- before the first turn
 lines-none : (l out before : List ℕ) (i : ℕ) → Put before i (bytesOfLines (noticeLines l out 0)) i before
@@ -42,14 +37,8 @@ abbrev μ-loop : tie.MeasureT-loop
 loop-holds : tie.Need-loop-holds Inv-loop μ-loop
 loop-holds c = (omega arith, omega arith, refl, lines-none _ _ _ _)
 
-notice-at-requires : tie.Need-notice-at-requires Inv-loop μ-loop
-notice-at-requires c κs = search needs
-
-settled-at-requires : tie.Need-settled-at-requires Inv-loop μ-loop
-settled-at-requires c κs = search needs
-
-put-line-requires : tie.Need-put-line-requires Inv-loop μ-loop
-put-line-requires c κs = search needs
+put-notice-requires : tie.Need-put-notice-requires Inv-loop μ-loop
+put-notice-requires c κs = search needs
 
 add-k : tie.Need-add-k Inv-loop μ-loop
 add-k c = search needs
@@ -59,25 +48,20 @@ loop-less c = search needs
 
 loop-again : tie.Need-loop-again Inv-loop μ-loop
 loop-again c =
-    let p = c .before .before in
-    let s = p .before .before in
-    let f = s .before in
-    let l = f .before .before .loop in
-    let e = p .put-line .ensures in (
-      omega arith,
-      omega arith,
-      put-length (e .0) ∙ l .inv .2,
-      lines-next _ _ (l .k) (f .notice-at .ensures) (s .settled-at .ensures) (l .inv .3) (e .0),
-    )
+    let turn = c .before .before in
+    let loop = turn .before .before .before .loop in
+    let put = turn .put-notice .ensures .0 in
+    (omega arith, omega arith, put-length put ∙ loop .inv .2, lines-next _ _ (loop .k) (loop .inv .3) put)
 
 same-length : tie.Need-same-length Inv-loop μ-loop
 same-length c = search needs
 
 returns : tie.Need-returns Inv-loop μ-loop
 returns c =
-    let l = c .before .loop in
-    let e : l .k ≡ c .before .before .before .before .before .args .n = omega arith in
-    (rw (← e) (l .inv .3), omega arith)
+    let loop = c .before in
+    let start = loop .before .before .before .before in
+    let all : loop .loop .k ≡ start .args .n = omega arith in
+    (rw (← all) (loop .loop .inv .3), omega arith)
 
 pub put-lines-spec : {M : Type 1} → statement M
 put-lines-spec =
@@ -86,9 +70,7 @@ put-lines-spec =
     Inv-loop
     μ-loop
     loop-holds
-    notice-at-requires
-    settled-at-requires
-    put-line-requires
+    put-notice-requires
     add-k
     loop-less
     loop-again

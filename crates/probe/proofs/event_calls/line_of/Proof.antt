@@ -1,7 +1,7 @@
 -- The line is that of the winter's facts and the list's masks, or 1 for no winter.
 -- Assumes nothing.
 use borrow.Author.Needs.{needs}
-use Rattle.probe.proofs.YearLaws.{no-year, of-year}
+use Rattle.probe.proofs.YearLaws.{no-event, event-of}
 use Rattle.probe.proofs.event_calls.line_of.Statement.{statement}
 use Rattle.probe.proofs.event_calls.line_of.Tie as tie
 
@@ -15,7 +15,7 @@ enum-told : tie.Need-enum-told
 enum-told c = search needs
 
 returns : tie.Need-returns
-returns c = no-year _ _ (c .before .before .winter-of .ensures) _ (c .enum-told .given .1)
+returns c = no-event _ _ (c .before .before .winter-of .ensures) _ (c .enum-told .given .1)
 
 masks-of-requires : tie.Need-masks-of-requires
 masks-of-requires c κs = search needs
@@ -27,7 +27,7 @@ returns-2 : tie.Need-returns-2
 returns-2 c =
     let known = c .before .before .before .before in
     rw (← c .before .before .masks-of .ensures)
-    (of-year _ _ (known .before .before .winter-of .ensures) _ _ (known .known .given .1) (c .settle-event .ensures))
+    (event-of _ _ (known .before .before .winter-of .ensures) _ _ (known .known .given .1) (c .settle-event .ensures))
 
 pub line-of-spec : {M : Type 1} → statement M
 line-of-spec =

@@ -1,8 +1,8 @@
--- `line_of` gives each fault its line.
+-- `by_fault` gives each fault its event.
 -- Assumes nothing.
 use borrow.Author.Needs.{needs}
-use Rattle.energy.proofs.lines.line_of.Statement.{statement}
-use Rattle.energy.proofs.lines.line_of.Tie as tie
+use Rattle.energy.proofs.events.by_fault.Statement.{statement}
+use Rattle.energy.proofs.events.by_fault.Tie as tie
 
 enum-told : tie.Need-enum-told
 enum-told c = search needs
@@ -22,6 +22,6 @@ returns-2 c = rw (c .before .fault .given .1)
 returns-3 : tie.Need-returns-3
 returns-3 c = rw (c .before .fault2 .given .1)
 
-pub line-of-spec : {M : Type 1} → statement M
-line-of-spec =
+pub by-fault-spec : {M : Type 1} → statement M
+by-fault-spec =
     tie.close (tie.spec enum-told enum-known-fault enum-known-fault-2 returns returns-2 returns-3)
