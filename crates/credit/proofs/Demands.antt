@@ -11,7 +11,7 @@ use lib.Seq.{drop-at}
 use Rattle.calendar.specs.WinterOf.{winterOf}
 use Rattle.energy.specs.Asked.{askedBy}
 use Rattle.energy.specs.Line.{lineOf}
-use Rattle.energy.specs.ReferenceDays.{freeIn}
+use Rattle.references.specs.ReferenceDays.{freeIn}
 use Rattle.event_hours.specs.Days.{masksOf}
 use Rattle.laws.specs.Table.{isRefusal}
 use Rattle.laws.proofs.SumLaws.{run-same, run-first}

@@ -13,7 +13,7 @@ use Rattle.laws.proofs.Every.{Every, imply}
 use Rattle.notices.specs.declared.notices.Notice.{Notice}
 use Rattle.energy.specs.Asked.{Asked, askedBy, needed}
 use Rattle.energy.specs.Energy.{energyOf}
-use Rattle.energy.specs.ReferenceDays.{freeIn}
+use Rattle.references.specs.ReferenceDays.{freeIn}
 use Rattle.energy.specs.Line.{lineOf, eventAnswer}
 use Rattle.energy.proofs.Scaled.{Times, energy-scaled}
 

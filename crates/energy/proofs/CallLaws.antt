@@ -28,7 +28,7 @@ use Rattle.schedule.proofs.Lawful.{Sound}
 use Rattle.energy.specs.Asked.{askedBy}
 use Rattle.energy.specs.HoursOf.{Spans}
 use Rattle.energy.specs.Line.{settled, lineOf, EventAnswer, told, eventRows, unlessRefused, eventAnswer}
-use Rattle.energy.specs.ReferenceDays.{freeIn}
+use Rattle.references.specs.ReferenceDays.{freeIn}
 use Rattle.energy.specs.declared.events.Event.{Event}
 use Rattle.energy.proofs.HourLaws.{in-band}
 

@@ -25,12 +25,12 @@ use Rattle.notices.specs.declared.notices.Notice.{Notice}
 use Rattle.energy.specs.Asked.{Asked, askedBy, warmUp, needed}
 use Rattle.energy.specs.Energy.{trimmedAt, energyOf}
 use Rattle.energy.specs.Line.{byFault, lineOf, eventRows, unlessRefused, eventAnswer}
-use Rattle.energy.specs.ReferenceDays.{freeIn, referenceDays}
+use Rattle.references.specs.ReferenceDays.{freeIn, referenceDays}
 use Rattle.energy.specs.declared.events.Event.{Event}
 use Rattle.energy.proofs.CallLaws.{call-taken}
 use Rattle.energy.proofs.EnergyBound.{trimmed-bound, spared-bound}
 use Rattle.energy.proofs.HourLaws.{warm-below}
-use Rattle.energy.proofs.Nearest.{refs-serve, refs-few}
+use Rattle.references.proofs.Nearest.{refs-serve, refs-few}
 use Rattle.energy.proofs.Unsettled.{Why, line-why}
 
 -- readings: those of a clean event are at most the largest

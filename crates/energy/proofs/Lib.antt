@@ -6,14 +6,9 @@ pub mod DayFaults
 pub mod EnergyBound
 pub mod EventLaws
 pub mod HourLaws
-pub mod KindLaws
 pub mod LineLaws
-pub mod Nearest
 pub mod OneOutcome
-pub mod PastEvents
-pub mod ReferenceLaws
 pub mod Scaled
-pub mod SearchLaws
 pub mod Signs
 pub mod SparedLaws
 pub mod TrimmedLaws

@@ -17,12 +17,12 @@ use Rattle.energy.specs.Asked.{askedBy}
 use Rattle.energy.specs.HoursOf.{HoursFor, askedIn}
 use Rattle.energy.specs.Line.{unsettled, lineOf}
 use Rattle.energy.specs.Ready.{PartsReady}
-use Rattle.energy.specs.ReferenceDays.{serves, referenceDays}
-use Rattle.energy.specs.Search.{Finds}
+use Rattle.references.specs.ReferenceDays.{serves, referenceDays}
 use Rattle.energy.specs.declared.events.Event.{Event}
 use Rattle.energy.specs.declared.hours.Hours.{Hours}
-use Rattle.energy.specs.declared.reference_days.Refs.{Refs}
-use Rattle.energy.proofs.Nearest.{Passes, refs-serve, refs-few}
+use Rattle.references.specs.declared.search.Refs.{Refs}
+use Rattle.references.proofs.FoundLaws.{Finds}
+use Rattle.references.proofs.Nearest.{Passes, refs-serve, refs-few}
 
 -- the search's answer r: fewer than five days, or the five
 module _ (w : Winter) (free : ℕ → Bool) (n : Notice) (r : Refs) (found : Finds (referenceDays w free (n .day)) r) where

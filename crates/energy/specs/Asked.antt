@@ -9,7 +9,7 @@ use Rattle.book.specs.Places.{hoursFrom, placesOn}
 use Rattle.calendar.specs.declared.answers.Winter.{Winter}
 use Rattle.notices.specs.Profiles.{credit}
 use Rattle.notices.specs.declared.notices.Notice.{Notice}
-use Rattle.energy.specs.ReferenceDays.{referenceDays}
+use Rattle.references.specs.ReferenceDays.{referenceDays}
 
 pub record Asked : Type 0 where
   pub day : ℕ

@@ -1,9 +1,7 @@
-pub mod ReferenceDays
 pub mod Asked
 pub mod Trimmed
 pub mod Spared
 pub mod Energy
-pub mod Search
 pub mod HoursOf
 pub mod Line
 pub mod Parts

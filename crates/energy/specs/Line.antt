@@ -18,7 +18,7 @@ use Rattle.notices.specs.declared.notices.Notice.{Notice}
 use Rattle.notices.specs.declared.profiles.Profile.the-variants.{Credit}
 use Rattle.energy.specs.Asked.{Asked, askedBy, needed}
 use Rattle.energy.specs.Energy.{energyOf}
-use Rattle.energy.specs.ReferenceDays.{freeIn}
+use Rattle.references.specs.ReferenceDays.{freeIn}
 use Rattle.energy.specs.declared.events.Event.{Event}
 use Rattle.energy.specs.declared.lines.Line.{Line}
 use Rattle.energy.specs.declared.lines.Line.the-variants as LineCase

@@ -10,12 +10,11 @@ use Rattle.book.specs.Places.{InDay, run}
 use Rattle.book.specs.Readings.{sumOver}
 use Rattle.book.specs.Values.{AtPlace}
 use Rattle.book.specs.declared.values.Fault.{Fault}
-use Rattle.calendar.specs.declared.answers.Kind.{Kind}
 use Rattle.calendar.specs.declared.answers.Winter.{Winter}
 use Rattle.notices.specs.declared.notices.Notice.{Notice}
 use Rattle.energy.specs.HoursOf.{Spans, HoursIn}
 use Rattle.energy.specs.Parts.{trimmedIn}
-use Rattle.energy.specs.Search.{OnDay}
+use Rattle.references.specs.Search.{BookDay}
 use Rattle.energy.specs.Trimmed.{trimmedOf}
 use Rattle.energy.specs.declared.hours.Hours.{Hours}
 
@@ -45,9 +44,9 @@ pub record PartsReady (w : Winter) (n day : ℕ) (refs : List ℕ) (hours : Hour
   pub refs-there : (k : ℕ) → k < 5 → noPart w n (getD refs k 0) ≡ false
   pub hours-in : HoursIn hours
 
--- an event whose day has its part in the book and is of that kind, and whose hours lie in a band
-pub record EventReady (w : Winter) (numbers : ℕ) (kind : Kind) (n : Notice) : Type 0 where
-  pub on-day : OnDay w (n .day) kind
+-- an event whose day has its part in the book, and whose hours lie in a band
+pub record EventReady (w : Winter) (numbers : ℕ) (n : Notice) : Type 0 where
+  pub book-day : BookDay w (n .day)
   pub day-there : noPart w numbers (n .day) ≡ false
   pub spans : Spans (n .start) (n .end)
 

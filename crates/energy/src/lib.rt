@@ -3,7 +3,6 @@ mod events;
 mod hours;
 mod lines;
 mod needed;
-mod reference_days;
 mod spared;
 mod sums;
 mod trimmed;

@@ -9,15 +9,14 @@ ghost use Rattle.energy.specs.HoursOf.{HoursIn, askedIn};
 ghost use Rattle.energy.specs.Line.{linePaper, lineOf, eventAnswer};
 ghost use Rattle.energy.specs.Parts.{partsEnergy, partsLine};
 ghost use Rattle.energy.specs.Ready.{DaysReady, PartsReady, EventReady};
-ghost use Rattle.energy.specs.ReferenceDays.{freeIn};
-ghost use Rattle.energy.specs.Search.{OnDay};
+ghost use Rattle.references.specs.ReferenceDays.{freeIn};
+ghost use Rattle.references.specs.Search.{OnDay};
 use crate::events::Event;
 use crate::events::by_fault;
 use crate::hours::Hours;
 use crate::hours::hours_of;
 use crate::needed::all_readings;
 use crate::needed::needed_fault;
-use crate::reference_days::nearest;
 use crate::spared::spared;
 use crate::sums::trimmed_sum;
 use book::Fault;
@@ -26,6 +25,7 @@ use calendar::Kind;
 use calendar::Winter;
 use notices::Notice;
 use notices::Profile;
+use references::reference_days;
 
 // What the call on one event answers: the event, or why it is refused.
 pub enum Line {
@@ -110,11 +110,11 @@ fn line_of_days(w: Winter, book: &[u32], day: u32, refs: [u32; 5], hours: Hours)
 }
 
 // The line of an event whose day is in the book and whose hours lie in a band: 20 comes before 21 and 22.
-fn line_in(w: Winter, kind: Kind, book: &[u32], masks: &[u32; 152], n: Notice) -> Event
-    requires { ⌜ EventReady w (length (now book)) kind n ⌝ }
+fn line_in(w: Winter, book: &[u32], masks: &[u32; 152], n: Notice) -> Event
+    requires { ⌜ EventReady w (length (now book)) n ⌝ }
     ensures { λ r. ⌜ r ≡ lineOf (now (book .entry)) (askedBy w (freeIn (now (masks .entry))) n) ⌝ }
 {
-    let found = nearest(w, kind, masks, n.day);
+    let found = reference_days(w, masks, n.day);
     let count = found.count;
     let refs = found.days;
     if count < 5 {
@@ -142,7 +142,7 @@ fn settle_on(w: Winter, kind: Kind, book: &[u32], masks: &[u32; 152], n: Notice)
     if notices::bad_hours(Profile::Credit.figures(), n) {
         return Line::BadHours;
     }
-    Line::Is(line_in(w, kind, book, masks, n))
+    Line::Is(line_in(w, book, masks, n))
 }
 
 // Settles one event of a winter, by the book and the masks of all events: code, place and energy. A wrong winter, book length, day or

@@ -16,7 +16,7 @@ use Rattle.calendar.specs.WinterOf.{winterOf}
 use Rattle.energy.specs.Asked.{warmUp, askedBy, needed}
 use Rattle.energy.specs.Energy.{trimmedAt, energyOf}
 use Rattle.energy.specs.Line.{lineOf, eventRows, eventAnswer}
-use Rattle.energy.specs.ReferenceDays.{freeIn, serves, before, referenceDays}
+use Rattle.references.specs.ReferenceDays.{freeIn, serves, before, referenceDays}
 use Rattle.energy.specs.Spared.{trialOf, aboveLimit, sparedOf}
 use Rattle.energy.specs.Trimmed.{sumOf, smallestOf, largestOf, trimmedOf}
 use Rattle.event_hours.specs.Days.{marksNone, withHours, masksTo, masksOf}

@@ -5,7 +5,7 @@ use mathlib.Core.List.{List, [], _∷_, _++_}
 use lib.ListN.{replicate}
 use Rattle.book.specs.Values.{missingMark}
 use Rattle.calendar.specs.WinterOf.{winterOf}
-use Rattle.energy.specs.ReferenceDays.{freeIn, referenceDays}
+use Rattle.references.specs.ReferenceDays.{freeIn, referenceDays}
 use Rattle.energy.specs.Spared.{sparedOf}
 use Rattle.event_hours.specs.Days.{masksOf}
 use Rattle.laws.specs.Answer.{Answer, given}

@@ -13,7 +13,7 @@ use Rattle.energy.proofs.CallLaws.{event-given}
 use Rattle.energy.proofs.EventLaws.{answer-most}
 use Rattle.energy.specs.Asked.{askedBy}
 use Rattle.energy.specs.Line.{lineOf, EventAnswer, eventAnswer}
-use Rattle.energy.specs.ReferenceDays.{freeIn}
+use Rattle.references.specs.ReferenceDays.{freeIn}
 use Rattle.event_hours.proofs.OwnHours.{event-back}
 use Rattle.event_hours.specs.Days.{masksOf}
 use Rattle.event_hours.specs.Events.{eventOn}

@@ -13,7 +13,7 @@ use Rattle.calendar.specs.WinterOf.{winterOf}
 use Rattle.dates.specs.Winters.{noWinter, days}
 use Rattle.energy.specs.Asked.{askedBy}
 use Rattle.energy.specs.Line.{lineOf}
-use Rattle.energy.specs.ReferenceDays.{freeIn}
+use Rattle.references.specs.ReferenceDays.{freeIn}
 use Rattle.event_hours.specs.Days.{masksOf}
 use Rattle.form.proofs.Converse.{Held, form-written}
 use Rattle.form.proofs.Begins.{FirstBroken}

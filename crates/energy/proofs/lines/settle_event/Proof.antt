@@ -6,7 +6,7 @@ use Rattle.laws.proofs.Guards.{found}
 use Rattle.laws.proofs.Tables.{row-stops, row-goes}
 use Rattle.energy.specs.Line.{eventRows}
 use Rattle.energy.proofs.CallLaws.{call-refused}
-use Rattle.energy.proofs.KindLaws.{told-day, told-past}
+use Rattle.references.proofs.KindLaws.{told-day, told-past}
 use borrow.Author.Needs.{needs}
 use Rattle.energy.proofs.lines.settle_event.Statement.{statement}
 use Rattle.energy.proofs.lines.settle_event.Tie as tie

@@ -61,7 +61,7 @@ line-in-requires c κs =
     let length = whole .before in
     let day = length .before .before .pre in
     record {
-      on-day = day;
+      book-day = day .day;
       day-there = part-there _ _ _ (day .day .right) (found (length .wrong-length .ensures) (whole .if1 .left)) (day .day .there);
       spans = in-band _ _ (figures .figures .ensures) (found (hours .bad-hours .ensures) (c .if3 .left));
     }

@@ -11,10 +11,10 @@ use borrow.Author.Tests.{eq-eqb, ne-eqb}
 use Rattle.calendar.specs.Excluded.{excluded}
 use Rattle.calendar.specs.Weekdays.{weekend}
 use Rattle.calendar.specs.declared.answers.Winter.{Winter}
-use Rattle.energy.specs.ReferenceDays.{freeIn, serves, before, referenceDays}
-use Rattle.energy.specs.Search.{pastEvents, freeServes}
-use Rattle.energy.proofs.PastEvents.{past-free, past-le}
-use Rattle.energy.proofs.SearchLaws.{Search, GoesOn, before-no, search-start, search-took, search-passed}
+use Rattle.references.specs.ReferenceDays.{freeIn, serves, before, referenceDays}
+use Rattle.references.specs.Search.{pastEvents, freeServes}
+use Rattle.references.proofs.PastEvents.{past-free, past-le}
+use Rattle.references.proofs.SearchLaws.{Search, GoesOn, before-no, search-start, search-took, search-passed}
 
 -- a day is free exactly where its mask is 0
 pub zero-free : (masks : List ℕ) (d : ℕ) → getD masks d 0 ≡ 0 → freeIn masks d ≡ true
@@ -63,7 +63,7 @@ module _ (w : Winter) (free : ℕ → Bool) (day : ℕ) where
       → Walk days count (pastEvents free d)
   walk-on days count d h s = record {
     within = omega (arith, past-le free d);
-    search = record { room = s .room; size = s .size; rest = rw (before-past d) at (s .rest) };
+    search = record { room = s .room; size = s .size; rest = rw (before-past d) at (s .rest); zeros = s .zeros };
     next-free = past-free free d;
   }
 

@@ -2,11 +2,11 @@
 -- Assumes nothing.
 use mathlib.Core.Logic.{inl, inr}
 use Rattle.calendar.proofs.OneOutcome.{day-known}
-use Rattle.energy.specs.Search.{freeServes}
-use Rattle.energy.proofs.KindLaws.{never-past}
+use Rattle.references.specs.Search.{freeServes}
+use Rattle.references.proofs.KindLaws.{never-past}
 use borrow.Author.Needs.{needs}
-use Rattle.energy.proofs.reference_days.free_day_serves.Statement.{statement}
-use Rattle.energy.proofs.reference_days.free_day_serves.Tie as tie
+use Rattle.references.proofs.search.free_day_serves.Statement.{statement}
+use Rattle.references.proofs.search.free_day_serves.Tie as tie
 
 kind-of-requires : tie.Need-kind-of-requires
 kind-of-requires c κs = search needs

@@ -1,23 +1,14 @@
--- How the code finds the reference days: at most five, at the front of an array with their count; and how it walks over days that carry
--- an event.
+-- How the code walks over days that carry an event, and what its private functions ask of a day. To believe the public contract it need
+-- not be read.
 -- Assumes nothing.
 use Prim.Native.Nat.{ℕ, zero, suc, _<_}
 use mathlib.Core.Bool.{Bool, false, not, cond, Bool·beq, _&&_}
-use mathlib.Core.List.{List}
 use mathlib.Core.Path.{_≡_}
-use lib.ListN.{length, take}
 use Rattle.calendar.specs.Days.{wrongWinter, inPeriod}
 use Rattle.calendar.specs.Excluded.{excluded}
 use Rattle.calendar.specs.Weekdays.{weekend}
 use Rattle.calendar.specs.declared.answers.Kind.{Kind}
 use Rattle.calendar.specs.declared.answers.Winter.{Winter}
-use Rattle.energy.specs.declared.reference_days.Refs.{Refs}
-
--- the days that were found are the first `count` of the array
-pub record Finds (ds : List ℕ) (r : Refs) : Type 0 where
-  pub counted : r .count ≡ length ds
-  pub first : take (r .count) (r .days) ≡ ds
-  pub long : length (r .days) ≡ 5
 
 -- where a search backwards from day d goes on: past the days right before it that carry an event
 unfoldable pub pastEvents : (ℕ → Bool) → ℕ → ℕ

@@ -1,4 +1,4 @@
--- `nearest` finds the reference days: the five nearest days that serve, or as many as there are.
+-- `nearest_before` finds the reference days: the five nearest days that serve, or as many as there are.
 -- The invariant: with `count` of them stored, the others are the nearest days before d that serve; and the day right before d carries no
 -- event.
 -- Assumes nothing.
@@ -7,14 +7,14 @@ use mathlib.Core.Logic.{⊎-elim}
 use mathlib.Core.Path.{_≡_, sym, ap, _∙_}
 use native.Mathlib.Omega.{arith}
 use Rattle.calendar.proofs.Promise.{days-few}
-use Rattle.energy.specs.ReferenceDays.{freeIn}
-use Rattle.energy.specs.Search.{freeServes}
-use Rattle.energy.proofs.PastEvents.{past-le}
-use Rattle.energy.proofs.ReferenceLaws.{Walk, walk-start, walk-took, walk-passed, free-day}
-use Rattle.energy.proofs.SearchLaws.{goes-on, search-ends}
+use Rattle.references.specs.ReferenceDays.{freeIn}
+use Rattle.references.specs.Search.{freeServes}
+use Rattle.references.proofs.PastEvents.{past-le}
+use Rattle.references.proofs.ReferenceLaws.{Walk, walk-start, walk-took, walk-passed, free-day}
+use Rattle.references.proofs.SearchLaws.{goes-on, search-ends}
 use borrow.Author.Needs.{needs}
-use Rattle.energy.proofs.reference_days.nearest.Statement.{statement}
-use Rattle.energy.proofs.reference_days.nearest.Tie as tie
+use Rattle.references.proofs.search.nearest_before.Statement.{statement}
+use Rattle.references.proofs.search.nearest_before.Tie as tie
 
 abbrev Inv-loop : tie.InvT-loop
 Inv-loop w event masks day days₀ count₀ d₀ days count d = Walk w (freeIn masks) day days count d
@@ -97,8 +97,8 @@ returns c =
     let turn = c .before .loop in
     search-ends _ _ (turn .days) (turn .count) (turn .d) (c .loop-test .left) (turn .inv .search)
 
-pub nearest-spec : {M : Type 1} → statement M
-nearest-spec =
+pub nearest-before-spec : {M : Type 1} → statement M
+nearest-before-spec =
     tie.close
     (tie.spec
     Inv-loop

@@ -14,11 +14,12 @@ use Rattle.calendar.specs.declared.answers.DayKind.the-variants.{Is, NoDay, NoW
 use Rattle.calendar.specs.declared.answers.DayKind.{DayKind}
 use Rattle.calendar.specs.declared.answers.Kind.{Kind}
 use Rattle.calendar.specs.declared.answers.Winter.{Winter}
-use Rattle.energy.specs.Search.{BookDay, OnDay}
+use Rattle.references.specs.Search.{BookDay, OnDay}
 
 -- a day past a winter's book
 pub record PastBook (w : Winter) (d : ℕ) : Type 0 where
   pub right : wrongWinter w ≡ false
+  pub past : noDay w d ≡ true
   pub no-period : not (inPeriod w d) ≡ true
 
 module _ (w : Winter) (d : ℕ) (r : DayKind) where
@@ -31,7 +32,8 @@ module _ (w : Winter) (d : ℕ) (r : DayKind) where
   pub told-past : r ≡ NoDay → kindPaper r ≡ dayKind w d → PastBook w d
   told-past q e =
       let right = right-known w d r (λ (z : r ≡ NoWinter). cc) e in
-      record { right = right; no-period = rw (past-period w d (no-day-known w d r (inl q) right e)) }
+      let past = no-day-known w d r (inl q) right e in
+      record { right = right; past = past; no-period = rw (past-period w d past) }
 
   pub never-past : (r ≡ NoDay) ⊎ (r ≡ NoWinter) → BookDay w d → kindPaper r ≡ dayKind w d → ⊥
   never-past q day e =

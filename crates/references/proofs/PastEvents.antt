@@ -4,7 +4,7 @@ use Prim.Native.Nat.{ℕ, zero, suc, _-_, _≤_, _<_}
 use mathlib.Core.Bool.{Bool, true, false, cond}
 use mathlib.Core.Path.{_≡_, refl, _∙_}
 use native.Mathlib.Omega.{arith}
-use Rattle.energy.specs.Search.{pastEvents}
+use Rattle.references.specs.Search.{pastEvents}
 
 module _ (free : ℕ → Bool) where
   past-here : (d : ℕ) → 0 < d → free (d - 1) ≡ true → d ≡ pastEvents free d

@@ -8,21 +8,22 @@ use mathlib.Core.Path.{_≡_, refl, sym, ap, _∙_}
 use native.Mathlib.Numerals.{add-one}
 use native.Mathlib.Omega.{arith}
 use lib.Dec.{ltb}
-use lib.ListN.{length, take, set, replicate, length-set}
-use lib.Seq.{take-nil, take-suc-set, length-take-le}
+use lib.ListN.{length, take, drop, set, replicate, length-set, take-append-drop}
+use lib.Seq.{take-nil, take-suc-set, length-take-le, drop-set-lt, drop-drop}
 use borrow.Author.Tests.{ltb-true, ltb-false, lt-ltb}
 use Rattle.laws.proofs.Guards.{both}
-use Rattle.energy.specs.ReferenceDays.{before}
-use Rattle.energy.specs.Search.{Finds}
+use Rattle.references.specs.ReferenceDays.{before, refsOf}
+use Rattle.references.specs.declared.search.Refs.{Refs}
 
 -- `count` days are found, and the others that are wanted are the nearest before d that pass
 pub record Search (ok : ℕ → Bool) (want days : List ℕ) (count d : ℕ) : Type 0 where
   pub room : count ≤ 5
   pub size : length days ≡ 5
   pub rest : take count days ++ take (5 - count) (before ok d) ≡ want
+  pub zeros : drop count days ≡ replicate (5 - count) 0
 
 pub search-start : (ok : ℕ → Bool) (day : ℕ) → Search ok (take 5 (before ok day)) (replicate 5 0) 0 day
-search-start ok day = record { room = omega arith; size = refl; rest = refl }
+search-start ok day = record { room = omega arith; size = refl; rest = refl; zeros = refl }
 
 -- it goes on while there are days left and room for one
 pub record GoesOn (count d : ℕ) : Type 0 where
@@ -49,13 +50,19 @@ module _ (ok : ℕ → Bool) (want days : List ℕ) (count : ℕ) where
         room = omega arith;
         size = length-set days count d ∙ s .size;
         rest = rw (take-suc-set days count d (omega (arith, s .size)), append-assoc) (ap (λ (ds : List ℕ). take count days ++ ds) more ∙ s .rest);
+        zeros = drop-set-lt (suc count) days count d (omega arith) ∙ fewer;
       }
     where
       more : d ∷ take (5 - suc count) (before ok d) ≡ take (5 - count) (before ok (suc d))
       more = let e : 5 - count ≡ suc (5 - suc count) = omega arith in rw (e, before-yes ok d t)
 
+      fewer : drop (suc count) days ≡ replicate (5 - suc count) 0
+      fewer =
+          let e : 5 - count ≡ suc (5 - suc count) = omega arith in
+          ap (λ (k : ℕ). drop k days) (sym (add-one count)) ∙ sym (drop-drop 1 count days) ∙ rw (s .zeros, e)
+
   no-next : (d : ℕ) → ok d ≡ false → Search ok want days count (suc d) → Search ok want days count d
-  no-next d t s = record { room = s .room; size = s .size; rest = rw (before-no ok d t) at (s .rest) }
+  no-next d t s = record { room = s .room; size = s .size; rest = rw (before-no ok d t) at (s .rest); zeros = s .zeros }
 
   -- the day before d is taken, or is passed over
   pub search-took : (d : ℕ) → GoesOn count d → ok (d - 1) ≡ true → Search ok want days count d
@@ -76,13 +83,15 @@ module _ (ok : ℕ → Bool) (want days : List ℕ) (count : ℕ) where
       rw none
 
   -- no days left, or no room: all are found
-  pub search-ends : (d : ℕ) → (ltb 0 d && ltb count 5) ≡ false → Search ok want days count d → Finds want (record { days = days; count = count })
-  search-ends d e s =
-      record {
-        counted = sym (length-take-le count days (omega (arith, s .room, s .size))) ∙ ap length all;
-        first = all;
-        long = s .size;
-      }
+  pub search-ends : (d : ℕ) → (ltb 0 d && ltb count 5) ≡ false → Search ok want days count d
+      → _≡_ {A = Refs} (record { days = days; count = count }) (refsOf want)
+  search-ends d e s = rw (counted, days-are)
     where
       all : take count days ≡ want
       all = sym (append-nil (take count days)) ∙ (rw (none-left d e) at (s .rest))
+
+      counted : count ≡ length want
+      counted = sym (length-take-le count days (omega (arith, s .room, s .size))) ∙ ap length all
+
+      days-are : days ≡ want ++ replicate (5 - length want) 0
+      days-are = sym (take-append-drop count days) ∙ rw (all, s .zeros, counted)

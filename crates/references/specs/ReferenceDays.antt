@@ -1,13 +1,15 @@
 -- Reference days.
 -- Assumes nothing.
-use Prim.Native.Nat.{ℕ, zero, suc}
-use mathlib.Core.Bool.{Bool, not, cond, Bool·beq, _&&_}
-use mathlib.Core.List.{List, [], _∷_}
+use Prim.Native.Nat.{ℕ, zero, suc, _-_}
+use mathlib.Core.Bool.{Bool, not, cond, Bool·beq, _&&_, _||_}
+use mathlib.Core.List.{List, [], _∷_, _++_}
 use lib.Dec.{eqb}
-use lib.ListN.{getD, take}
+use lib.ListN.{length, getD, take, replicate}
+use Rattle.calendar.specs.Days.{wrongWinter, noDay}
 use Rattle.calendar.specs.Excluded.{excluded}
 use Rattle.calendar.specs.Weekdays.{weekend}
 use Rattle.calendar.specs.declared.answers.Winter.{Winter}
+use Rattle.references.specs.declared.search.Refs.{Refs}
 
 -- which days carry "no event at any hour", by the masks of all days; the masks enter the rules here and nowhere else
 unfoldable pub freeIn : List ℕ → ℕ → Bool
@@ -29,3 +31,11 @@ before ok (suc d) = withDay (ok d) d (before ok d)
 -- "the five nearest days before the event day"; fewer where there are not five
 unfoldable pub referenceDays : Winter → (ℕ → Bool) → ℕ → List ℕ
 referenceDays w free day = take 5 (before (serves w free day) day)
+
+-- as the call gives them: five numbers and a count, the days first and zeros behind them
+abbrev pub refsOf : List ℕ → Refs
+refsOf ds = record { days = ds ++ replicate (5 - length ds) 0; count = length ds }
+
+-- the call: a wrong winter or a day outside the book has no days
+unfoldable pub refsIn : Winter → (ℕ → Bool) → ℕ → Refs
+refsIn w free day = refsOf (cond (wrongWinter w || noDay w day) [] (referenceDays w free day))

@@ -2,11 +2,11 @@
 -- Assumes nothing.
 use mathlib.Core.Path.{refl}
 use native.Mathlib.Omega.{arith}
-use Rattle.energy.specs.ReferenceDays.{freeIn}
-use Rattle.energy.proofs.PastEvents.{Onward, onward-here, onward-none, onward-next}
-use Rattle.energy.proofs.ReferenceLaws.{zero-free, nonzero-event}
-use Rattle.energy.proofs.reference_days.past_events.Statement.{statement}
-use Rattle.energy.proofs.reference_days.past_events.Tie as tie
+use Rattle.references.specs.ReferenceDays.{freeIn}
+use Rattle.references.proofs.PastEvents.{Onward, onward-here, onward-none, onward-next}
+use Rattle.references.proofs.ReferenceLaws.{zero-free, nonzero-event}
+use Rattle.references.proofs.search.past_events.Statement.{statement}
+use Rattle.references.proofs.search.past_events.Tie as tie
 
 abbrev Inv-loop : tie.InvT-loop
 Inv-loop masks day d₀ d = Onward (freeIn masks) day d

@@ -12,7 +12,7 @@ use native.Mathlib.Omega.{arith}
 use lib.ListN.{length, getD, take, length-take}
 use Rattle.calendar.specs.declared.answers.Winter.{Winter}
 use Rattle.laws.proofs.Every.{Every, front, at, imply}
-use Rattle.energy.specs.ReferenceDays.{serves, before, referenceDays}
+use Rattle.references.specs.ReferenceDays.{serves, before, referenceDays}
 
 -- the days before d that pass a test
 

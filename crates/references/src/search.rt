@@ -1,13 +1,14 @@
 // The reference days of an event.
 ghost use mathlib.Core.Path.{_≡_};
 ghost use Prim.Native.Nat.{_<_};
-ghost use Rattle.energy.specs.ReferenceDays.{freeIn, referenceDays};
-ghost use Rattle.energy.specs.Search.{Finds, pastEvents, freeServes, BookDay, OnDay};
+ghost use mathlib.Core.List.{[]};
+ghost use Rattle.references.specs.ReferenceDays.{freeIn, referenceDays, refsOf, refsIn};
+ghost use Rattle.references.specs.Search.{pastEvents, freeServes, BookDay, OnDay};
 use calendar::DayKind;
 use calendar::Kind;
 use calendar::Winter;
 
-// Reference days, nearest first: the first `count` of `days`.
+// Reference days, nearest first: the first `count` of `days`, and zeros behind them.
 pub struct Refs {
     pub days: [u32; 5],
     pub count: usize,
@@ -41,9 +42,9 @@ fn past_events(masks: &[u32; 152], day: u32) -> u32
 }
 
 // The five nearest days before the event day that serve, or as many as there are. It stops at the fifth.
-pub(crate) fn nearest(w: Winter, event: Kind, masks: &[u32; 152], day: u32) -> Refs
+fn nearest_before(w: Winter, event: Kind, masks: &[u32; 152], day: u32) -> Refs
     requires { ⌜ OnDay w day event ⌝ }
-    ensures { λ r. ⌜ Finds (referenceDays w (freeIn (now (masks .entry))) day) r ⌝ }
+    ensures { λ r. ⌜ r ≡ refsOf (referenceDays w (freeIn (now (masks .entry))) day) ⌝ }
 {
     let mut days = [0u32; 5];
     let mut count: usize = 0;
@@ -57,4 +58,25 @@ pub(crate) fn nearest(w: Winter, event: Kind, masks: &[u32; 152], day: u32) -> R
         d = past_events(masks, d);
     }
     Refs { days, count }
+}
+
+// No days at all.
+fn no_refs() -> Refs
+    ensures { λ r. ⌜ r ≡ refsOf [] ⌝ }
+{
+    Refs {
+        days: [0u32; 5],
+        count: 0,
+    }
+}
+
+// The reference days of an event on a day, by the masks of all events. A wrong winter or a day outside its book has none.
+pub fn reference_days(w: Winter, masks: &[u32; 152], day: u32) -> Refs
+    ensures { λ r. ⌜ r ≡ refsIn w (freeIn (now (masks .entry))) day ⌝ }
+{
+    match calendar::kind_of(w, day) {
+        DayKind::Is(kind) => nearest_before(w, kind, masks, day),
+        DayKind::NoWinter => no_refs(),
+        DayKind::NoDay => no_refs(),
+    }
 }

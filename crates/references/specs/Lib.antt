@@ -1,0 +1,2 @@
+pub mod ReferenceDays
+pub mod Search
