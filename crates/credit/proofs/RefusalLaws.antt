@@ -128,6 +128,11 @@ module _ (w readings p : ℕ) (l : List ℕ) (room : ℕ) where
   abbrev notices : List Row
   notices = noticesTable (winterOf w) (figuresOf Credit) l
 
+  -- past a call's own rows those of the notices decide
+  pub right-refusal : RightCall w readings p (length l) room → firstOf notices ≡ refusalOf w readings p l room
+  unfolding refusalOf settlementTable
+  right-refusal right = part-goes call notices (right-none w readings p (length l) room right)
+
   -- a call's refusal decides, else that of the notices
   module _ (number : ℕ) (e : refusalAt number 0 ≡ firstOf call) where
     pub refusal-call : (number ≡ 0 → ⊥) → refusalAt number 0 ≡ refusalOf w readings p l room
@@ -139,10 +144,9 @@ module _ (w readings p : ℕ) (l : List ℕ) (room : ℕ) where
 
     -- in a winter, by its facts
     pub refusal-notices : number ≡ 0 → checkedIn (winterOf w) Credit l ≡ refusalOf w readings p l room
-    unfolding refusalOf settlementTable
     refusal-notices z =
         let right = call-is-right z in
-        checked-notices w Credit l (whole-test (length l) (right .whole) (right .few)) ∙ part-goes call notices (right-none w readings p (length l) room right)
+        checked-notices w Credit l (whole-test (length l) (right .whole) (right .few)) ∙ right-refusal right
 
   -- a settlement that is not refused: the call is right, and the list keeps every rule of the winter credit
   module _ (e : isRefusal (refusalOf w readings p l room) ≡ false) where
