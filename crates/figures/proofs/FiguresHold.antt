@@ -45,7 +45,8 @@ use Rattle.numerals.specs.Rows.{rowAt}
 use Rattle.printing.specs.Sheet.{refusedLines, noticeLine, statementLines}
 use Rattle.schedule.specs.ListCheck.{ownRows, listRows, noticeRows, afterNotice, sofarAt, rowsAt, badList, checkTable, checkAnswer}
 use Rattle.schedule.specs.Rules.{outsidePeriod, onExcludedDay, barredWeekend, startsBefore, sameBand, overLimit}
-use Rattle.text.specs.Statement.{settlementBytes, settledBytes, valuesBytes, formBytes, statementOf}
+use Rattle.text.specs.Refusals.{valueRows, textTable, textRefusal}
+use Rattle.text.specs.Statement.{settledBytes, toldBytes, statementOf}
 use Rattle.figures.specs.CalendarFigures.{alsoFrom, alsoExcluded, calendarFigures}
 use Rattle.figures.specs.EnergyFigures.{sampleDay, sampleBook, sampleList, energyFigures}
 use Rattle.figures.specs.Figure.{Figure}
@@ -61,8 +62,8 @@ unfolding calendarFigures alsoExcluded alsoFrom easterSunday refuse noEasterYear
     inPeriod firstWeekday weekday weekend energyFigures sampleDay sampleBook sampleList eventAnswer eventRows lineOf askedBy warmUp hoursFrom needed placesOn
     firstFault faultOf energyOf sumOver trimmedAt trimmedOf sumOf smallestOf largestOf sparedOf aboveLimit trialOf referenceDays before freeIn serves
     masksOf masksTo withHours marksNone hoursMask moneyFigures settlement settledBy written writtenBy refusalOf settlementTable callRows badBook badPrice
-    shortOutput rowsTo lineAt centsAt sumTo eventAt roundedWorth textFigures bytesIn sampleInput sampleOutput twice statementOf formBytes valuesBytes
-    settledBytes settlementBytes formOf topOf restOf noticesSaid readsFrom readsSaid keyedAt fieldAt fieldFrom digitsFrom endFrom isDigit wordAt wordFrom
+    shortOutput rowsTo lineAt centsAt sumTo eventAt roundedWorth textFigures bytesIn sampleInput sampleOutput twice statementOf textRefusal textTable
+    valueRows toldBytes settledBytes formOf topOf restOf noticesSaid readsFrom readsSaid keyedAt fieldAt fieldFrom digitsFrom endFrom isDigit wordAt wordFrom
     rowAt linesEnd linesSaid eventLineAt headAt readLineAt flatten misplacedIn misplacedBy bookDays bookIn statementLines refusedLines noticeLine
     bytesOfLines lineBytes fieldBytes decimal digitsIn
 figures-hold = refl

@@ -1,4 +1,4 @@
--- Laws of a text's book: its days, and that read lines fill the front of a book as they fill a book so long.
+-- Laws of a text's book: its days and its length, and that read lines fill the front of a book as they fill a book so long.
 -- Assumes nothing.
 use Prim.Native.Nat.{ℕ, suc, _≤_, _<_}
 use mathlib.Core.Bool.{false}
@@ -7,7 +7,7 @@ use mathlib.Core.Logic.{⊎-elim}
 use mathlib.Core.Path.{_≡_, refl, sym, ap, _∙_}
 use native.Mathlib.Omega.{arith}
 use lib.ListN.{length, take, set, length-take}
-use lib.Seq.{sets, set-out, take-set-le, take-set-lt}
+use lib.Seq.{sets, length-sets, set-out, take-set-le, take-set-lt}
 use Rattle.dates.proofs.Promise.{no-winter, is-winter, winter-count}
 use Rattle.dates.specs.Answers.{daysPaper, winterDays}
 use Rattle.dates.specs.Winters.{noWinter, days}
@@ -44,3 +44,9 @@ pub book-front : (n : ℕ) (xs : List ReadLine) (book : List ℕ) → take n (bo
 unfolding bookIn
 book-front n [] book = refl
 book-front n (x ∷ xs) book = book-front n xs (putRead x book) ∙ ap (bookIn xs) (front-put n (x .values) book (startOf x))
+
+-- and read lines make no book longer
+pub book-long : (xs : List ReadLine) (book : List ℕ) → length (bookIn xs book) ≡ length book
+unfolding bookIn
+book-long [] book = refl
+book-long (x ∷ xs) book = book-long xs (putRead x book) ∙ length-sets book (startOf x) (x .values)

@@ -1,2 +1,5 @@
+pub mod FirstRefusal
+pub mod PrintLaws
 pub mod StatementLaws
 pub mod Statements
+pub mod ValueLaws

@@ -1,2 +1,4 @@
 pub mod Prints
+pub mod Refusals
 pub mod Statement
+pub mod Values

@@ -1,11 +1,12 @@
 // The answer to a text.
 ghost use mathlib.Core.Path.{_≡_};
 ghost use Prim.Native.Nat.{_≤_};
-ghost use lib.ListN.{length};
-ghost use Rattle.notices.specs.Notices.{longestList};
+ghost use lib.ListN.{length, take};
+ghost use Rattle.book.specs.Length.{bookLength};
+ghost use Rattle.dates.specs.Winters.{days};
 ghost use Rattle.printing.specs.Sheet.{refusedBytes};
-ghost use Rattle.text.specs.Prints.{Prints, PrintsHeld, Arrays, Settles, shapeBytes};
-ghost use Rattle.text.specs.Statement.{answerRoom, settledBytes, answered, answeredIn};
+ghost use Rattle.text.specs.Prints.{Prints, PrintsHeld, Arrays, InBook, NoticesLeft, valuesBytes, shapeBytes};
+ghost use Rattle.text.specs.Statement.{answerRoom, answered, answeredIn};
 use dates::Days;
 use form::Form;
 use form::Shape;
@@ -18,7 +19,7 @@ fn refuse(number: u32, place: u64, out: &mut [u8]) -> usize
     printing::print_refusal(number, place, out)
 }
 
-// Settles a list into lines, for which there is just the room, and prints the settlement.
+// Settles a list into lines, for which there is just the room, and prints the settlement, or the refusal of its notices.
 fn print_settled(
     winter: u32,
     book: &[u32],
@@ -27,8 +28,8 @@ fn print_settled(
     lines: &mut [u64],
     out: &mut [u8],
 ) -> usize
-    requires { ⌜ Settles (now list) (now lines) (now out) ⌝ }
-    ensures { λ r. ⌜ Prints (settledBytes winter (now (book .entry)) price (now (list .entry))) (now (out .entry)) r (now (out .exit)) ⌝ }
+    requires { ⌜ NoticesLeft winter (now book) price (now list) (now lines) (now out) ⌝ }
+    ensures { λ r. ⌜ Prints (valuesBytes winter price (now (list .entry)) 0 (now (book .entry))) (now (out .entry)) r (now (out .exit)) ⌝ }
 {
     let s = credit::settle(winter, book, price, list, lines);
     let number = s.number;
@@ -41,26 +42,22 @@ fn print_settled(
     printing::print_statement(winter, price, list, lines, energy, cents, out)
 }
 
-// Prints the settlement of the notices of a text, of which the list has room for 100. More are refused, with 3 or 4, by how many they are.
+// Prints the answer to a text whose lines all lie in the book of its winter: 3, 4, and the settlement of the notices, of which the list has
+// room for 100.
 fn print_notices(shape: Shape, list: &[u32], book: &[u32], out: &mut [u8]) -> usize
-    requires { ⌜ (length (now list) ≡ longestList) × (answerRoom ≤ length (now out)) ⌝ }
-    ensures { λ r. ⌜ PrintsHeld (shape .events) (now (list .entry)) (settledBytes (shape .winter) (now (book .entry)) (shape .price))
-        (now (out .entry)) r (now (out .exit)) ⌝ }
+    requires { ⌜ InBook shape (now list) (now book) (now out) ⌝ }
+    ensures { λ r. ⌜ PrintsHeld (shape .events) (now (list .entry)) (shapeBytes shape (now (book .entry))) (now (out .entry)) r (now (out .exit)) ⌝ }
 {
-    let events = shape.events as usize;
-    if notices::MOST_NOTICES < events {
-        let number = credit::call_refusal(
-            shape.winter,
-            book.len(),
-            shape.price,
-            notices::NOTICE_NUMBERS * events,
-            credit::LINE_NUMBERS * events,
-        );
-        return refuse(number, 0, out);
-    }
-    let mut lines = [0u64; credit::MOST_LINE_NUMBERS];
     let winter = shape.winter;
     let price = shape.price;
+    let events = shape.events as usize;
+    if money::bad_price(price) {
+        return refuse(3, 0, out);
+    }
+    if notices::MOST_NOTICES < events {
+        return refuse(4, 0, out);
+    }
+    let mut lines = [0u64; credit::MOST_LINE_NUMBERS];
     print_settled(
         winter,
         book,
@@ -74,7 +71,8 @@ fn print_notices(shape: Shape, list: &[u32], book: &[u32], out: &mut [u8]) -> us
 // Prints the answer to a text that has the form, from the front of its notices and the book of 152 days that it filled.
 fn print_formed(shape: Shape, list: &[u32], book: &[u32], out: &mut [u8]) -> usize
     requires { ⌜ Arrays (now list) (now book) (now out) ⌝ }
-    ensures { λ r. ⌜ PrintsHeld (shape .events) (now (list .entry)) (shapeBytes shape (now (book .entry))) (now (out .entry)) r (now (out .exit)) ⌝ }
+    ensures { λ r. ⌜ PrintsHeld (shape .events) (now (list .entry)) (shapeBytes shape (take (bookLength (days (shape .winter))) (now (book .entry))))
+        (now (out .entry)) r (now (out .exit)) ⌝ }
 {
     let Days::Are(days) = dates::winter_days(shape.winter) else {
         return refuse(1, 0, out);

@@ -1,11 +1,11 @@
 -- A wrong winter is refused, and then a misplaced line; the notices of the other texts are settled on the front of the book.
 -- Assumes nothing.
-use mathlib.Core.Path.{ap, _∙_}
 use native.Mathlib.Omega.{arith}
 use lib.ListN.{length-take}
 use borrow.Author.Needs.{needs}
 use Rattle.dates.proofs.Promise.{no-winter, is-winter, winter-count}
-use Rattle.text.proofs.StatementLaws.{prints-same, winter-refused, misplaced-refused, values-settled, book-fits}
+use Rattle.text.proofs.PrintLaws.{prints-same, book-fits}
+use Rattle.text.proofs.ValueLaws.{winter-refused, misplaced-refused}
 use Rattle.text.proofs.answer.print_formed.Statement.{statement}
 use Rattle.text.proofs.answer.print_formed.Tie as tie
 
@@ -58,7 +58,21 @@ slice-aggregate-print-notices c =
     simp length-take (omega (arith, fits, long .length-of .ensures))
 
 print-notices-requires : tie.Need-print-notices-requires
-print-notices-requires c κs = search needs
+print-notices-requires c κs =
+    let long = c .before .before in
+    let found = long .before in
+    let known = found .before .before in
+    let asked = known .before .before in
+    let start = asked .before .before .before .before in
+    let many = winter-count _ _ _ (known .days .given .1) (asked .winter-days .ensures) in
+    let fits = book-fits _ _ many in
+    record {
+      winter = is-winter _ _ _ (known .days .given .1) (asked .winter-days .ensures);
+      placed = found .if1 .left;
+      hundred = start .pre .hundred;
+      days = simp length-take (omega (arith, fits, long .length-of .ensures, many, start .pre .days));
+      room = start .pre .room;
+    }
 
 same-length-3 : tie.Need-same-length-3
 same-length-3 c = search needs
@@ -70,12 +84,8 @@ returns-3 c =
     let found = long .before in
     let known = found .before .before in
     let asked = known .before .before in
-    let right = is-winter _ _ _ (known .days .given .1) (asked .winter-days .ensures) in
     let many = winter-count _ _ _ (known .days .given .1) (asked .winter-days .ensures) in
-    record {
-      for-each = λ l h. prints-same (printed .print-notices .ensures .for-each l h)
-          (rw (long .length-of .ensures, many) (values-settled _ _ l _ _ right (found .if1 .left)));
-    }
+    record { for-each = λ l h. prints-same (printed .print-notices .ensures .for-each l h) (rw (long .length-of .ensures, many)) }
 
 pub print-formed-spec : {M : Type 1} → statement M
 print-formed-spec =

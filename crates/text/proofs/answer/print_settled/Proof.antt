@@ -1,7 +1,8 @@
--- The settlement is printed: the line of its refusal, or the statement.
+-- The settlement is printed: the line of the refusal of its notices, or the statement.
 -- Assumes nothing.
 use borrow.Author.Needs.{needs}
-use Rattle.text.proofs.StatementLaws.{prints-same, settled-refused, statement-printed}
+use Rattle.text.proofs.PrintLaws.{prints-same}
+use Rattle.text.proofs.ValueLaws.{settled-refused, statement-printed}
 use Rattle.text.proofs.answer.print_settled.Statement.{statement}
 use Rattle.text.proofs.answer.print_settled.Tie as tie
 
@@ -24,9 +25,10 @@ returns : tie.Need-returns
 returns c =
     let tested = c .before .before .before .before in
     let settled = tested .before .before .before in
-    let start = settled .before .before .before .before .before .before in
+    let output = settled .before .before .before in
+    let start = output .before .before .before in
     prints-same (c .before .before .refuse .ensures)
-    (settled-refused _ _ _ _ (start .args .lines .now) (start .pre .just) _ (settled .settle .ensures .0) (tested .if1 .taken))
+    (settled-refused _ _ _ _ (start .args .lines .now) (start .args .out .now) (start .pre) _ (settled .settle .ensures .0) (tested .if1 .taken))
 
 print-statement-requires : tie.Need-print-statement-requires
 print-statement-requires c κs = search needs
@@ -42,10 +44,10 @@ returns-2 c =
     let printed = c .before .before in
     let tested = printed .before .before .before in
     let settled = tested .before .before .before in
-    let start = settled .before .before .before .before .before .before in
-    statement-printed _ _ _ _ (start .args .lines .now) (start .pre .just) _ (settled .settle .ensures .0) (tested .if1 .left) (start .pre .few) _
-    (start .args .out .now) _ _
-    (settled .settle .ensures .1) (search needs) (start .pre .room) (printed .print-statement .ensures)
+    let output = settled .before .before .before in
+    let start = output .before .before .before in
+    statement-printed _ _ _ _ (start .args .lines .now) (start .args .out .now) (start .pre) _ (settled .settle .ensures .0) (tested .if1 .left)
+    (start .pre .call .few) _ _ _ (settled .settle .ensures .1) (search needs) (printed .print-statement .ensures)
 
 pub print-settled-spec : {M : Type 1} → statement M
 print-settled-spec =

@@ -2,7 +2,7 @@
 -- Assumes nothing.
 use native.Mathlib.Omega.{arith}
 use borrow.Author.Needs.{needs}
-use Rattle.text.proofs.StatementLaws.{prints}
+use Rattle.text.proofs.PrintLaws.{prints}
 use Rattle.text.proofs.answer.refuse.Statement.{statement}
 use Rattle.text.proofs.answer.refuse.Tie as tie
 

@@ -3,7 +3,7 @@
 use mathlib.Core.Path.{sym, _∙_}
 use borrow.Author.Needs.{needs}
 use Rattle.form.proofs.OneOutcome.{form-is}
-use Rattle.text.proofs.StatementLaws.{no-room, too-long, form-broken, by-arrays}
+use Rattle.text.proofs.StatementLaws.{no-room, long-refused, form-refused, answers, by-arrays}
 use Rattle.text.proofs.answer.statement.Statement.{statement}
 use Rattle.text.proofs.answer.statement.Tie as tie
 
@@ -21,7 +21,7 @@ returns-2 c =
     let refused = c .before .before in
     let long = refused .before .before in
     let a = long .before .before .before .before .args in
-    too-long (a .text .now) (a .out .now) (long .before .if1 .left) (long .if2 .taken) (refused .refuse .ensures)
+    answers (a .text .now) (a .out .now) (long .before .if1 .left) (long-refused (a .text .now) (long .if2 .taken)) (refused .refuse .ensures)
 
 slice-aggregate-read-text : tie.Need-slice-aggregate-read-text
 slice-aggregate-read-text c = search needs
@@ -60,8 +60,8 @@ returns-3 c =
     let read = known .before .before .before .before in
     let fits = read .before .before .before in
     let a = fits .before .before .before .before .args in
-    form-broken (a .text .now) (a .out .now) (fits .before .if1 .left) (fits .if2 .left) _
-    (sym (known .line .given .1) ∙ form-is _ _ (read .read-text .ensures .0)) (refused .refuse2 .ensures)
+    let is = sym (form-is _ _ (read .read-text .ensures .0)) ∙ known .line .given .1 in
+    answers (a .text .now) (a .out .now) (fits .before .if1 .left) (form-refused (a .text .now) (fits .if2 .left) _ is) (refused .refuse2 .ensures)
 
 same-length-3 : tie.Need-same-length-3
 same-length-3 c = search needs
@@ -73,7 +73,7 @@ returns-4 c =
     let read = known .before .before .before .before in
     let fits = read .before .before .before in
     let a = fits .before .before .before .before .args in
-    let is = sym (known .shape .given .1) ∙ form-is _ _ (read .read-text .ensures .0) in
+    let is = sym (form-is _ _ (read .read-text .ensures .0)) ∙ known .shape .given .1 in
     by-arrays (a .text .now) (a .out .now) (fits .before .if1 .left) (fits .if2 .left) _ is (read .read-text .ensures .1 .0) (read .read-text .ensures .1 .1)
     (printed .print-formed .ensures)
 
