@@ -83,7 +83,9 @@ short : (k n : ℕ) → n < 10 ^ suc k → length (decimal n) ≤ suc k
 short zero n h = let e : n < 10 = h in omega (arith, length-one n e)
 short (suc k) n h =
     ⊎-elim (λ a. omega (arith, length-one n a))
-    (λ a. omega (arith, length-more n a, short k (n / 10) (div-lt-iff-lt-mul {k = 10} {x = n} {y = 10 ^ suc k} (lit< tt) .1 (simp unary-clauses (simp unary-clauses at h)))))
+    (λ a.
+    let tenth : n / 10 < 10 ^ suc k = div-lt-iff-lt-mul {k = 10} {x = n} {y = 10 ^ suc k} (lit< tt) .1 (simp unary-clauses (simp unary-clauses at h)) in
+    omega (arith, length-more n a, short k (n / 10) tenth))
     (either-order n 10)
 
 pub decimal-short : (n : ℕ) → n < 18446744073709551616 → length (decimal n) ≤ 20

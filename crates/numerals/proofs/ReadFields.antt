@@ -143,5 +143,10 @@ row-reads s r at (suc most) (v ∷ w ∷ ws) small some few e =
     let rest = numberBytes (w ∷ ws) in
     let f = field-reads s (rest ++ r) at v comma (small .0) comma-ends (e ∙ rw (fields-more, append-assoc)) in
     let z : at + length here + length rest ≡ at + length (numberBytes (v ∷ w ∷ ws))
-    = omega (arith, ap length (fields-more (decimal v) (decimal w) (map decimal ws)), length-append (decimal v) (comma ∷ rest), length-append (decimal v) (comma ∷ [])) in
+    = omega (
+      arith,
+      ap length (fields-more (decimal v) (decimal w) (map decimal ws)),
+      length-append (decimal v) (comma ∷ rest),
+      length-append (decimal v) (comma ∷ []),
+    ) in
     rw (f .read, row-reads s r (at + length here) most (w ∷ ws) (small .1) (omega arith) (omega arith) (f .next), z)

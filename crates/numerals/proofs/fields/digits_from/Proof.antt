@@ -75,7 +75,8 @@ returns-2 : tie.Need-returns-2 Inv-loop μ-loop
 returns-2 c =
     let in-loop = c .before .before .before .before in
     let at-loop = in-loop .before in
-    sym (digits-big (S at-loop) (at-loop .loop .i) (at-loop .loop .value) (in-loop .loop-test .taken) (is-digit (c .before)) (c .if2 .taken)) ∙ at-loop .loop .inv .1
+    let turn = at-loop .loop in
+    sym (digits-big (S at-loop) (turn .i) (turn .value) (in-loop .loop-test .taken) (is-digit (c .before)) (c .if2 .taken)) ∙ turn .inv .1
 
 add-i : tie.Need-add-i Inv-loop μ-loop
 add-i c = search needs
@@ -86,9 +87,10 @@ loop-less c = omega arith
 loop-again : tie.Need-loop-again Inv-loop μ-loop
 loop-again c =
     let in-loop = c .before .before .before .before in
-    let at-loop = in-loop .before in (
+    let at-loop = in-loop .before in
+    let turn = at-loop .loop in (
       c .if2 .left,
-      sym (digits-more (S at-loop) (at-loop .loop .i) (at-loop .loop .value) (in-loop .loop-test .taken) (is-digit (c .before)) (c .if2 .left)) ∙ at-loop .loop .inv .1,
+      sym (digits-more (S at-loop) (turn .i) (turn .value) (in-loop .loop-test .taken) (is-digit (c .before)) (c .if2 .left)) ∙ turn .inv .1,
     )
 
 returns-3 : tie.Need-returns-3 Inv-loop μ-loop

@@ -35,8 +35,9 @@ shared-slice-read-if2-2 c = search needs
 returns-2 : tie.Need-returns-2 Inv-loop μ-loop
 unfolding wordAt
 returns-2 c =
-    let l = c .before .before .before .before .before .loop in
-    let a = c .before .before .before .before .before .before .args in
+    let at-loop = c .before .before .before .before .before in
+    let l = at-loop .loop in
+    let a = at-loop .before .args in
     sym (l .inv ∙ word-other (a .text .now) (a .word .now) (l .i) (l .k) (search needs) (search needs) (c .if2 .taken))
 
 add-i : tie.Need-add-i Inv-loop μ-loop
@@ -50,8 +51,9 @@ loop-less c = omega arith
 
 loop-again : tie.Need-loop-again Inv-loop μ-loop
 loop-again c =
-    let l = c .before .before .before .before .before .loop in
-    let a = c .before .before .before .before .before .before .args in
+    let at-loop = c .before .before .before .before .before in
+    let l = at-loop .loop in
+    let a = at-loop .before .args in
     l .inv ∙ word-more (a .text .now) (a .word .now) (l .i) (l .k) (search needs) (search needs) (c .if2 .left)
 
 returns-3 : tie.Need-returns-3 Inv-loop μ-loop

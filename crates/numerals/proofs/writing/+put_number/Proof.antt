@@ -75,13 +75,17 @@ put-number-slice-write-out-2 : (t : ℕ) → put-number-lts.Need-slice-write-out
   put-number-below t,
   put-number.Post,
 ) (put-number-at t) put-number.Post
-put-number-slice-write-out-2 t c = omega (arith, put-length (c .before .before .put-number .ensures), length-more _ (c .before .before .before .before .if1 .left))
+put-number-slice-write-out-2 t c =
+    let front = c .before .before in
+    omega (arith, put-length (front .put-number .ensures), length-more _ (front .before .before .if1 .left))
 
 put-number-add-result-2 : (t : ℕ) → put-number-lts.Need-add-result-2 (
   put-number-below t,
   put-number.Post,
 ) (put-number-at t) put-number.Post
-put-number-add-result-2 t c = omega (arith, put-length (c .before .before .put-number .ensures), length-more _ (c .before .before .before .before .if1 .left))
+put-number-add-result-2 t c =
+    let front = c .before .before in
+    omega (arith, put-length (front .put-number .ensures), length-more _ (front .before .before .if1 .left))
 
 put-number-same-length-2 : (t : ℕ) → put-number-lts.Need-same-length-2 (
   put-number-below t,
@@ -93,7 +97,9 @@ put-number-returns-2 : (t : ℕ) → put-number-lts.Need-returns-2 (
   put-number-below t,
   put-number.Post,
 ) (put-number-at t) put-number.Post
-put-number-returns-2 t c = put-digits (c .before .before .before .before .if1 .left) (c .before .before .put-number .ensures)
+put-number-returns-2 t c =
+    let front = c .before .before in
+    put-digits (front .before .before .if1 .left) (front .put-number .ensures)
 
 pub +put-number-spec : {M : Type 1} → statement M
 +put-number-spec = close μ-put-number λ t. put-number-lts.spec (
