@@ -7,6 +7,7 @@ use mathlib.Core.Path.{_≡_, refl, sym, ap, _∙_}
 use native.Mathlib.Omega.{arith}
 use lib.ListN.{length}
 use lib.Seq.{sets, length-sets}
+use Rattle.notices.specs.Notices.{noticeNumbers}
 use Rattle.numerals.proofs.Stores.{sets-append}
 use Rattle.numerals.specs.declared.fields.Step.the-variants as step
 use Rattle.form.specs.Lines.{eventLineAt, linesEnd, linesSaid}
@@ -17,7 +18,7 @@ use Rattle.form.proofs.LineLaws.{lines-done, said-done, lines-bad, said
 -- of so many event lines from `at` on some are left: the next stands at i, is line `line`, and its numbers go to index k of the list
 pub record EventsLeft (s : List ℕ) (at events : ℕ) (came list : List ℕ) (left i line k : ℕ) : Type 0 where
   pub lines : line + left ≡ 4 + events
-  pub index : k + 3 * left ≡ 3 * events
+  pub index : k + noticeNumbers * left ≡ noticeNumbers * events
   pub size : length list ≡ length came
   pub ends : linesEnd (eventLineAt s) events at 4 ≡ linesEnd (eventLineAt s) left i line
   pub stores : sets came 0 (flatten (linesSaid (eventLineAt s) events at)) ≡ sets list k (flatten (linesSaid (eventLineAt s) left i))
@@ -51,13 +52,13 @@ module _ {s : List ℕ} {at events : ℕ} {came list : List ℕ} {left i line k 
         (sym (h .ends ∙ lines-bad (eventLineAt s) left i more line bad), sym (h .stores ∙ stored))
 
     -- it is whole, and its three numbers are stored
-    pub events-next : {next : ℕ} → EventPut s i list k (step.To next) after → EventsLeft s at events came after (left - 1) next (line + 1) (k + 3)
+    pub events-next : {next : ℕ} → EventPut s i list k (step.To next) after → EventsLeft s at events came after (left - 1) next (line + 1) (k + noticeNumbers)
     unfolding flatten
     events-next {next} put =
         let whole = sym (put .0) in
         let said = eventLineAt s i .said in
         let rest = flatten (linesSaid (eventLineAt s) (left - 1) next) in
-        let stored : sets list k (flatten (linesSaid (eventLineAt s) left i)) ≡ sets after (k + 3) rest
+        let stored : sets list k (flatten (linesSaid (eventLineAt s) left i)) ≡ sets after (k + noticeNumbers) rest
         = ap (λ (l : List (List ℕ)). sets list k (flatten l)) (said-more (eventLineAt s) left i more whole)
         ∙ sets-append said rest list k
         ∙ rw (event-three s i next whole, put .1) in

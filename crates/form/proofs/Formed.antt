@@ -6,6 +6,7 @@ use mathlib.Core.List.{List, [], _∷_}
 use mathlib.Core.Path.{_≡_, refl, sym, ap, _∙_}
 use native.Mathlib.Omega.{arith}
 use lib.ListN.{length}
+use Rattle.notices.specs.Notices.{noticeNumbers}
 use Rattle.form.specs.Document.{EventLine, noticesIn}
 use Rattle.form.specs.Form.{formOf, noticesSaid}
 use Rattle.form.specs.declared.whole.Form.the-variants as form
@@ -35,12 +36,12 @@ says-held s f e h =
     rw (g, h .is) (read .1)
 
 -- the list of a text that has the form has three numbers a notice
-three-each : (xs : List EventLine) → length (noticesIn xs) ≡ 3 * length xs
+three-each : (xs : List EventLine) → length (noticesIn xs) ≡ noticeNumbers * length xs
 unfolding noticesIn
 three-each [] = refl
 three-each (x ∷ xs) = omega (arith, three-each xs)
 
-pub notices-long : (s : List ℕ) (f : Shape) → formOf s ≡ form.Whole f → length (noticesSaid s) ≡ 3 * f .events
+pub notices-long : (s : List ℕ) (f : Shape) → formOf s ≡ form.Whole f → length (noticesSaid s) ≡ noticeNumbers * f .events
 notices-long s f e =
     let h = form-written s f e in
     let said = says-held s f e h in

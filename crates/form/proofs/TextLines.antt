@@ -9,6 +9,8 @@ use lib.Dec.{eqb}
 use lib.ListN.{length, drop, length-append}
 use borrow.Author.Tests.{eqb-true}
 use Rattle.laws.proofs.Every.{Every}
+use Rattle.book.specs.Length.{dayHours}
+use Rattle.notices.specs.Notices.{noticeNumbers}
 use Rattle.numerals.proofs.Here.{Here, here-then, here-byte, past}
 use Rattle.numerals.proofs.LineLaws.{numberLine, numberBytes, fields-more, line-is}
 use Rattle.numerals.proofs.ReadFields.{comma-ends, word-reads, field-reads, row-reads}
@@ -37,7 +39,7 @@ event-reads s r at x small e =
     let key = bytesOf "event=" in
     let three = numberBytes (eventNumbers x) in
     let there : drop at s ≡ key ++ (three ++ r) = e ∙ rw line-is (append-assoc key three r) in
-    let row = row-reads s r (at + length key) 3 (eventNumbers x) (small .day, (small .start, (small .end, tt))) (omega arith) (omega arith)
+    let row = row-reads s r (at + length key) noticeNumbers (eventNumbers x) (small .day, (small .start, (small .end, tt))) (omega arith) (omega arith)
     (past s key (three ++ r) at there) in
     let z : at + length key + length three ≡ at + length (lineBytes (eventLine x))
     = omega (arith, ap length (line-is (eventLine x)), length-append key three) in
@@ -49,7 +51,7 @@ record Three (ns : List ℕ) : Type 0 where
   fits : SmallEvent value
   is : ns ≡ eventNumbers value
 
-three : (ns : List ℕ) → Every Small ns → length ns ≡ 3 → Three ns
+three : (ns : List ℕ) → Every Small ns → length ns ≡ noticeNumbers → Three ns
 three [] small e = absurd (omega arith)
 three (a ∷ []) small e = absurd (omega arith)
 three (a ∷ (b ∷ [])) small e = absurd (omega arith)
@@ -63,8 +65,8 @@ three (a ∷ (b ∷ (c ∷ (d ∷ ns)))) small e = absurd (omega arith)
 event-written : (s : List ℕ) (at q : ℕ) → eventLineAt s at .end ≡ step.To q → LineWritten s (eventLineAt s) eventLine eventNumbers SmallEvent at q
 event-written s at q e =
     let read = event-read s at q e in
-    let row = row-written 3 s (read .from) q (read .ends) in
-    let ns = three (rowAt 3 s (read .from) .said) (row .small) (read .three) in
+    let row = row-written noticeNumbers s (read .from) q (read .ends) in
+    let ns = three (rowAt noticeNumbers s (read .from) .said) (row .small) (read .three) in
     let key = word-written s at (bytesOf "event=") (read .from) (read .key) in
     record {
       value = ns .value;
@@ -103,7 +105,7 @@ read-reads s r at x small e =
     let at-hour = at + length key + length (day ++ (comma ∷ [])) in
     let second = field-reads s after-hour at-hour (x .hour) comma (small .hour) comma-ends (first .next) in
     let at-values = at-hour + length (hour ++ (comma ∷ [])) in
-    let row = row-reads s r at-values 24 (x .values) (small .values) (small .some) (small .few) (second .next) in
+    let row = row-reads s r at-values dayHours (x .values) (small .values) (small .some) (small .few) (second .next) in
     let z : at-values + length vs ≡ at + length (lineBytes (readLine x))
     = omega (
       arith,
@@ -143,8 +145,8 @@ read-written : (s : List ℕ) (at q : ℕ) → readLineAt s at .end ≡ step.To 
 read-written s at q e =
     let read = read-read s at q e in
     let start = head-written s at (read .day) (read .hour) (read .from) (read .start) in
-    let row = row-written 24 s (read .from) q (read .ends) in
-    let vs = rowAt 24 s (read .from) .said in
+    let row = row-written dayHours s (read .from) q (read .ends) in
+    let vs = rowAt dayHours s (read .from) .said in
     record {
       value = record { day = read .day; hour = read .hour; values = vs };
       fits = record { day = start .small-day; hour = start .small-hour; values = row .small; some = row .some; few = row .few };

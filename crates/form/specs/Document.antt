@@ -3,6 +3,7 @@
 use Prim.Native.Nat.{ℕ, _≤_}
 use mathlib.Core.List.{List, [], _∷_, _++_, map}
 use lib.ListN.{length}
+use Rattle.book.specs.Length.{dayHours}
 use Rattle.laws.proofs.Every.{Every}
 use Rattle.numerals.specs.Fields.{Small}
 use Rattle.numerals.specs.Lines.{Line, line, bytesOfLines}
@@ -57,7 +58,7 @@ pub record SmallRead (x : ReadLine) : Type 0 where
   pub hour : Small (x .hour)
   pub values : Every Small (x .values)
   pub some : 1 ≤ length (x .values)
-  pub few : length (x .values) ≤ 24
+  pub few : length (x .values) ≤ dayHours
 
 -- values that can be written in the form
 pub record Writable (d : Document) : Type 0 where

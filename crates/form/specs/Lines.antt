@@ -6,6 +6,8 @@ use mathlib.Core.Bool.{cond}
 use mathlib.Core.List.{List, [], _∷_}
 use lib.Dec.{eqb}
 use lib.ListN.{length}
+use Rattle.book.specs.Length.{dayHours}
+use Rattle.notices.specs.Notices.{noticeNumbers}
 use Rattle.numerals.specs.Fields.{afterField, afterStep, fieldAt, wordAt}
 use Rattle.numerals.specs.Rows.{Read, noNumber, rowAt}
 use Rattle.numerals.specs.Words.{bytesOf, comma}
@@ -22,7 +24,7 @@ exactly n r = record { said = r .said; end = cond (eqb (length (r .said)) n) (r 
 
 -- `event=day,s,e`
 unfoldable pub eventLineAt : List ℕ → ℕ → Read (List ℕ)
-eventLineAt s at = afterStep noNumber (wordAt s at (bytesOf "event=")) (λ p. exactly 3 (rowAt 3 s p))
+eventLineAt s at = afterStep noNumber (wordAt s at (bytesOf "event=")) (λ p. exactly noticeNumbers (rowAt noticeNumbers s p))
 
 -- `read=day,hour,`
 unfoldable pub headAt : List ℕ → ℕ → Head
@@ -44,7 +46,7 @@ afterHead broken head.Broken go = broken
 
 -- `read=day,hour,v,..`
 unfoldable pub readLineAt : List ℕ → ℕ → Read ReadLine
-readLineAt s at = afterHead noRead (headAt s at) (λ day hour p. readFrom day hour (rowAt 24 s p))
+readLineAt s at = afterHead noRead (headAt s at) (λ day hour p. readFrom day hour (rowAt dayHours s p))
 
 -- n lines of a kind from a position on, by what reads one of them: where they end, if the first is line `line` of the text
 unfoldable pub linesEnd : {A : Type 0} → (ℕ → Read A) → ℕ → ℕ → ℕ → Lines

@@ -8,6 +8,7 @@ use mathlib.Core.List.{List, [], _∷_}
 use lib.Dec.{ltb, leb}
 use lib.ListN.{length}
 use lib.Seq.{sets}
+use Rattle.book.specs.Length.{dayHours}
 pub use Rattle.book.specs.Places.{hourPlace}
 use Rattle.dates.specs.Winters.{noWinter, days}
 use Rattle.numerals.specs.Fields.{afterStep}
@@ -32,7 +33,7 @@ endOf x = startOf x + length (x .values)
 
 -- a line of so many values from an hour of a day on, where the book has so many days and the line before ends before place `end`
 unfoldable pub misplacedBy : ℕ → ℕ → ℕ → ℕ → ℕ → Bool
-misplacedBy days end day hour count = leb days day || ltb 24 (hour + count) || ltb (hourPlace day hour) end
+misplacedBy days end day hour count = leb days day || ltb dayHours (hour + count) || ltb (hourPlace day hour) end
 
 abbrev pub misplaced : ℕ → ℕ → ReadLine → Bool
 misplaced days end x = misplacedBy days end (x .day) (x .hour) (length (x .values))

@@ -15,6 +15,11 @@ use numerals::field_at;
 use numerals::row_at;
 use numerals::word_at;
 
+// How many numbers an event line has, and how many values a read line has at most.
+const EVENT_NUMBERS: u32 = notices::NOTICE_NUMBERS as u32;
+
+const MOST_VALUES: u32 = book::DAY_HOURS as u32;
+
 // The day and the hour that a read line starts with, and the position after them.
 pub enum Head {
     Start(u32, u32, usize),
@@ -47,10 +52,10 @@ fn event_line(text: &[u8], at: usize, list: &mut [u32], k: usize) -> Step
     let Step::To(p) = word_at(text, at, b"event=") else {
         return Step::Broken;
     };
-    let Row::Of(count, next) = row_at(text, p, 3, list, k) else {
+    let Row::Of(count, next) = row_at(text, p, EVENT_NUMBERS, list, k) else {
         return Step::Broken;
     };
-    if count != 3 {
+    if count != EVENT_NUMBERS {
         return Step::Broken;
     }
     Step::To(next)
@@ -70,7 +75,7 @@ pub(crate) fn event_lines(text: &[u8], at: usize, events: u32, list: &mut [u32])
             return Lines::Broken(line);
         };
         i = next;
-        k += 3;
+        k += notices::NOTICE_NUMBERS;
         line += 1;
         left -= 1;
     }
@@ -107,7 +112,7 @@ fn read_line(text: &[u8], at: usize, book: &mut [u32]) -> Hours
     let Head::Start(day, hour, from) = head_at(text, at) else {
         return Hours::Broken;
     };
-    let Row::Of(count, next) = row_at(text, from, 24, book, place_of(day, hour)) else {
+    let Row::Of(count, next) = row_at(text, from, MOST_VALUES, book, place_of(day, hour)) else {
         return Hours::Broken;
     };
     Hours::Of(day, hour, count, next)

@@ -29,7 +29,7 @@ pub(crate) fn misplaced(days: usize, end: usize, day: u32, hour: u32, count: u32
     ensures { λ r. ⌜ r ≡ misplacedBy days end day hour count ⌝ }
 {
     let start = place_of(day, hour);
-    (days <= day as usize) | (24 < hour as usize + count as usize) | (start < end)
+    (days <= day as usize) | (book::DAY_HOURS < hour as usize + count as usize) | (start < end)
 }
 
 // The first misplaced line so far: the one that was found before, or this one if it is misplaced; 0 if there is none.
