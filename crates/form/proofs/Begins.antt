@@ -41,14 +41,14 @@ pub record Begins (s : List ℕ) (k : ℕ) : Type 0 where
   pub is : s ≡ bytesOfLines (take k (documentLines document)) ++ rest
 
 -- a text of no values, of which line k is the first that breaks the form
-pub record FirstBroken (s : List ℕ) (k : ℕ) : Type 0 where
+pub record FirstBrokenLine (s : List ℕ) (k : ℕ) : Type 0 where
   pub no-text : Held s → ⊥
   pub from-one : 1 ≤ k
   pub before : Begins s (k - 1)
   pub breaks : Begins s k → ⊥
 
 -- j lines keep the form, and with one more they do not
-pub next-breaks : (s : List ℕ) (j k : ℕ) → (Held s → ⊥) → k ≡ suc j → Begins s j → (Begins s (suc j) → ⊥) → FirstBroken s k
+pub next-breaks : (s : List ℕ) (j k : ℕ) → (Held s → ⊥) → k ≡ suc j → Begins s j → (Begins s (suc j) → ⊥) → FirstBrokenLine s k
 next-breaks s j k never e before breaks =
     let f : k - 1 ≡ j = omega arith in
     record { no-text = never; from-one = omega arith; before = rw f before; breaks = rw e breaks }
@@ -96,9 +96,9 @@ shorter s j k h b =
       is = b .is ∙ ap (λ (l : List Line). bytesOfLines l ++ b .rest) e ∙ rw (lines-append, append-assoc);
     }
 
-not-later : (s : List ℕ) (j k : ℕ) → FirstBroken s j → FirstBroken s k → j ≤ k
+not-later : (s : List ℕ) (j k : ℕ) → FirstBrokenLine s j → FirstBrokenLine s k → j ≤ k
 not-later s j k x y = ⊎-elim (λ h. absurd (y .breaks (shorter s k (j - 1) (omega arith) (x .before)))) (λ h. h) (either-order k j)
 
 -- no other line is the first that breaks the form
-pub one-first : (s : List ℕ) (j k : ℕ) → FirstBroken s j → FirstBroken s k → j ≡ k
+pub one-first : (s : List ℕ) (j k : ℕ) → FirstBrokenLine s j → FirstBrokenLine s k → j ≡ k
 one-first s j k x y = le-antisymm (not-later s j k x y) (not-later s k j y x)

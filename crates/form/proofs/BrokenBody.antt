@@ -16,7 +16,7 @@ use Rattle.numerals.specs.declared.fields.Number.the-variants as number
 use Rattle.form.specs.Document.{Document, eventLine, readLine, documentLines, SmallEvent, SmallRead}
 use Rattle.form.specs.Lines.{eventLineAt, readLineAt, linesEnd}
 use Rattle.form.specs.declared.lines.Lines.the-variants as lines
-use Rattle.form.proofs.Begins.{bodyLines, document-long, Begins, FirstBroken, next-breaks, begins, anyEvent, anyRead, small-events, small-reads}
+use Rattle.form.proofs.Begins.{bodyLines, document-long, Begins, FirstBrokenLine, next-breaks, begins, anyEvent, anyRead, small-events, small-reads}
 use Rattle.form.proofs.BrokenTop.{topLines, after-top, top-here}
 use Rattle.form.proofs.Converse.{Held, TopRead}
 use Rattle.form.proofs.LineKinds.{lines-written}
@@ -51,7 +51,7 @@ module _ (s : List ℕ) (never : Held s → ⊥) {winter price n at : ℕ} (top 
       (omega (arith, length-map xs eventLine, x .counted))
       (here-more s (topLines winter price n) (map eventLine xs) (head .here) (x .here))
 
-  pub no-event : (k : ℕ) → Stops (eventLineAt s) n at 4 k → FirstBroken s k
+  pub no-event : (k : ℕ) → Stops (eventLineAt s) n at 4 k → FirstBrokenLine s k
   no-event k stop =
       next-breaks s (past-top (stop .whole-lines)) k never (omega (arith, stop .named))
       (events-begin (stop .whole-lines) (stop .end) (omega (arith, stop .fewer)) (stop .whole))
@@ -76,7 +76,7 @@ module _ (s : List ℕ) (never : Held s → ⊥) {winter price n at : ℕ} (top 
         lines-front (events s) (b .rest) (b .document .events) at 4 (b .writable .events) (take (suc i) ys) q (rw (front .same) at are-events)
         (rw there at (front .after))
 
-    pub no-counted : (k : ℕ) → keyedAt s q (bytesOf "reads=") ≡ number.Broken → k ≡ n + 4 → FirstBroken s k
+    pub no-counted : (k : ℕ) → keyedAt s q (bytesOf "reads=") ≡ number.Broken → k ≡ n + 4 → FirstBrokenLine s k
     no-counted k none e =
         next-breaks s (past-top n) k never (omega arith) (events-begin n q (omega arith) are-events)
         (λ b. keyed-never s (b .rest) (bytesOf "reads=") q (length (b .document .reads)) [] (b .writable .counted)
@@ -123,7 +123,7 @@ module _ (s : List ℕ) (never : Held s → ⊥) {winter price n at : ℕ} (top 
           (here-more s (topLines winter price n) (xs ++ (counted ++ zs)) (head .here)
           (here-more s xs (counted ++ zs) (x .here) (here-more s counted zs (y .here) (z .here))))
 
-      pub no-read : (k : ℕ) → Stops (readLineAt s) m r (n + 4 + 1) k → FirstBroken s k
+      pub no-read : (k : ℕ) → Stops (readLineAt s) m r (n + 4 + 1) k → FirstBrokenLine s k
       no-read k stop =
           next-breaks s (past-top (n + suc (stop .whole-lines))) k never (omega (arith, stop .named))
           (reads-begin (stop .whole-lines) (stop .end) (omega (arith, stop .fewer)) (stop .whole))
@@ -134,7 +134,7 @@ module _ (s : List ℕ) (never : Held s → ⊥) {winter price n at : ℕ} (top 
           lines-never (reads s) (b .rest) (b .document .reads) r (n + 4 + 1) (b .writable .reads) i k few (stop .broken) (front .after))
 
       -- "Nothing follows": values with these lines have no line more
-      pub no-end : (k t : ℕ) → linesEnd (readLineAt s) m r (n + 4 + 1) ≡ lines.Whole t → k ≡ n + 4 + 1 + m → FirstBroken s k
+      pub no-end : (k t : ℕ) → linesEnd (readLineAt s) m r (n + 4 + 1) ≡ lines.Whole t → k ≡ n + 4 + 1 + m → FirstBrokenLine s k
       no-end k t whole e =
           next-breaks s (past-top (n + suc m)) k never (omega arith) (reads-begin m t (omega arith) whole)
           (λ b. omega (

@@ -13,7 +13,7 @@ use Rattle.numerals.specs.Lines.{Line, line}
 use Rattle.numerals.specs.Words.{bytesOf}
 use Rattle.numerals.specs.declared.fields.Number.the-variants as number
 use Rattle.form.specs.Document.{documentLines}
-use Rattle.form.proofs.Begins.{bodyLines, Begins, FirstBroken, next-breaks, begins}
+use Rattle.form.proofs.Begins.{bodyLines, Begins, FirstBrokenLine, next-breaks, begins}
 use Rattle.form.proofs.Converse.{Held, TopRead}
 use Rattle.form.proofs.LinesInText.{Stands, KeyedFront, keyed-front, keyed-never, LinesHere, here-more, keyed-here}
 
@@ -70,14 +70,14 @@ module _ (s : List ℕ) where
         }
 
   module _ (k : ℕ) (never : Held s → ⊥) where
-    pub no-winter : keyedAt s 0 (bytesOf "winter=") ≡ number.Broken → k ≡ 1 → FirstBroken s k
+    pub no-winter : keyedAt s 0 (bytesOf "winter=") ≡ number.Broken → k ≡ 1 → FirstBrokenLine s k
     unfolding documentLines
     no-winter none e =
         next-breaks s 0 k never e (bare-begins 0 0 0 0 [] _ (omega arith) (omega arith) refl refl (rw lines-none (here-none s 0)))
         (λ b. keyed-never s (b .rest) (bytesOf "winter=") 0 (b .document .winter) [] (b .writable .winter) (b .is) none)
 
     module _ {winter p : ℕ} (is-winter : keyedAt s 0 (bytesOf "winter=") ≡ number.Is winter p) where
-      pub no-price : keyedAt s p (bytesOf "price=") ≡ number.Broken → k ≡ 2 → FirstBroken s k
+      pub no-price : keyedAt s p (bytesOf "price=") ≡ number.Broken → k ≡ 2 → FirstBrokenLine s k
       unfolding documentLines
       no-price none e =
           let x = keyed-here s (bytesOf "winter=") 0 winter p is-winter in
@@ -85,7 +85,7 @@ module _ (s : List ℕ) where
           (λ b. keyed-never s (b .rest) (bytesOf "price=") p (b .document .price) [] (b .writable .price) (after-winter is-winter 1 b) none)
 
       pub no-count : {price q : ℕ} → keyedAt s p (bytesOf "price=") ≡ number.Is price q → keyedAt s q (bytesOf "events=") ≡ number.Broken → k ≡ 3
-          → FirstBroken s k
+          → FirstBrokenLine s k
       unfolding documentLines
       no-count {price} {q} is-price none e =
           let x = keyed-here s (bytesOf "winter=") 0 winter p is-winter in

@@ -13,7 +13,8 @@ use Rattle.numerals.specs.declared.fields.Step.the-variants as step
 use Rattle.form.specs.Lines.{eventLineAt, linesEnd, linesSaid}
 use Rattle.form.specs.declared.lines.Lines.{Lines}
 use Rattle.form.specs.declared.lines.Lines.the-variants as lines
-use Rattle.form.proofs.LineLaws.{lines-done, said-done, lines-bad, said-bad, lines-more, said-more, EventPut, event-three}
+use Rattle.form.proofs.LineLaws.{lines-done, said-done, lines-bad, said-bad, lines-more, said-more}
+use Rattle.form.proofs.OneLine.{EventPut, event-three}
 
 -- of so many event lines from `at` on some are left: the next stands at i, is line `line`, and its numbers go to index k of the list
 pub record EventsLeft (s : List ℕ) (at events : ℕ) (came list : List ℕ) (left i line k : ℕ) : Type 0 where

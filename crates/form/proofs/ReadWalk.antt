@@ -20,7 +20,8 @@ use Rattle.form.specs.Places.{hourPlace, startOf, endOf, misplacedBy, mi
 use Rattle.form.specs.declared.lines.Hours.the-variants as hours
 use Rattle.form.specs.declared.lines.Placed.{Placed}
 use Rattle.form.specs.declared.lines.Placed.the-variants as placed
-use Rattle.form.proofs.LineLaws.{lines-done, said-done, lines-bad, said-bad, lines-more, said-more, ReadPut}
+use Rattle.form.proofs.LineLaws.{lines-done, said-done, lines-bad, said-bad, lines-more, said-more}
+use Rattle.form.proofs.OneLine.{ReadPut}
 
 -- what is told of a read line: that it is broken, or its hours and where it ends
 pub hours-broken : (r : Read ReadLine) → hours.Broken ≡ hoursTold r → r .end ≡ step.Broken

@@ -2,19 +2,15 @@
 -- where the one before it ends.
 -- Assumes nothing.
 use Prim.Native.Nat.{ℕ, _+_}
-use mathlib.Core.List.{List, [], _∷_, _++_, append-nil, map, map-id, flatten}
-use mathlib.Core.Path.{_≡_, refl, sym, ap, _∙_}
-use native.Mathlib.Omega.{arith}
-use lib.ListN.{length, drop, length-append}
+use mathlib.Core.List.{List, [], _∷_, _++_, map, map-id, flatten}
+use mathlib.Core.Path.{_≡_, refl, ap, _∙_}
+use lib.ListN.{length}
 use borrow.Author.Tests.{eq-eqb}
-use Rattle.numerals.proofs.Here.{past}
-use Rattle.numerals.proofs.LineLaws.{lines-more, lines-append}
 use Rattle.numerals.proofs.ReadFields.{keyed-reads}
 use Rattle.numerals.specs.Fields.{keyedAt}
-use Rattle.numerals.specs.Lines.{line, lineBytes, bytesOfLines}
 use Rattle.numerals.specs.Words.{bytesOf}
 use Rattle.numerals.specs.declared.fields.Number.the-variants as number
-use Rattle.form.specs.Document.{EventLine, ReadLine, Document, eventNumbers, eventLine, readLine, documentLines, textOf, SmallEvent, SmallRead, Writable, noticesIn}
+use Rattle.form.specs.Document.{EventLine, Document, eventNumbers, eventLine, readLine, textOf, SmallEvent, SmallRead, Writable, noticesIn}
 use Rattle.form.specs.Form.{topOf, restOf, formOf, noticesSaid, readsFrom, readsSaid}
 use Rattle.form.specs.Lines.{eventLineAt, readLineAt, linesSaid}
 use Rattle.form.specs.Places.{bookDays, misplacedLineIn}
@@ -23,6 +19,8 @@ use Rattle.form.specs.declared.whole.Shape.{Shape}
 use Rattle.form.specs.declared.whole.Top.the-variants as top
 use Rattle.form.proofs.LineKinds.{LinesRead, lines-read}
 use Rattle.form.proofs.TextLines.{events, reads}
+use Rattle.form.proofs.TextParts.{readsPart, fromCounted, fromEvents, fromCount, fromPrice, parts, priceAt, countAt, eventsAt, countedAt, readsAt}
+use Rattle.form.proofs.TextParts.{at-price, at-count, at-events, at-counted, at-reads, at-end}
 
 -- a text of the shape f says the values of a document: its numbers, how many notices it has, these, the first misplaced read line for the days
 -- of its winter, and the read lines
@@ -49,108 +47,36 @@ notices-flat [] = refl
 notices-flat (x ∷ xs) = ap (λ (l : List ℕ). eventNumbers x ++ l) (notices-flat xs)
 
 module _ (d : Document) (ok : Writable d) where
-  -- the six parts of the text
-  abbrev winterPart : List ℕ
-  winterPart = lineBytes (line "winter=" (d .winter ∷ []))
-
-  abbrev pricePart : List ℕ
-  pricePart = lineBytes (line "price=" (d .price ∷ []))
-
-  abbrev countPart : List ℕ
-  countPart = lineBytes (line "events=" (length (d .events) ∷ []))
-
-  abbrev eventsPart : List ℕ
-  eventsPart = bytesOfLines (map eventLine (d .events))
-
-  abbrev countedPart : List ℕ
-  countedPart = lineBytes (line "reads=" (length (d .reads) ∷ []))
-
-  abbrev readsPart : List ℕ
-  readsPart = bytesOfLines (map readLine (d .reads))
-
-  -- what stands from each part on
-  abbrev fromCounted : List ℕ
-  fromCounted = countedPart ++ readsPart
-
-  abbrev fromEvents : List ℕ
-  fromEvents = eventsPart ++ fromCounted
-
-  abbrev fromCount : List ℕ
-  fromCount = countPart ++ fromEvents
-
-  abbrev fromPrice : List ℕ
-  fromPrice = pricePart ++ fromCount
-
-  parts : textOf d ≡ winterPart ++ fromPrice
-  unfolding documentLines
-  parts = simp (lines-more, lines-append)
-
-  -- where each part starts
-  abbrev priceAt : ℕ
-  priceAt = 0 + length winterPart
-
-  abbrev countAt : ℕ
-  countAt = priceAt + length pricePart
-
-  abbrev eventsAt : ℕ
-  eventsAt = countAt + length countPart
-
-  abbrev countedAt : ℕ
-  countedAt = eventsAt + length eventsPart
-
-  abbrev readsAt : ℕ
-  readsAt = countedAt + length countedPart
-
-  at-price : drop priceAt (textOf d) ≡ fromPrice
-  at-price = past (textOf d) winterPart fromPrice 0 parts
-
-  at-count : drop countAt (textOf d) ≡ fromCount
-  at-count = past (textOf d) pricePart fromCount priceAt at-price
-
-  at-events : drop eventsAt (textOf d) ≡ fromEvents
-  at-events = past (textOf d) countPart fromEvents countAt at-count
-
-  at-counted : drop countedAt (textOf d) ≡ fromCounted
-  at-counted = past (textOf d) eventsPart fromCounted eventsAt at-events
-
-  at-reads : drop readsAt (textOf d) ≡ readsPart ++ []
-  at-reads = past (textOf d) countedPart readsPart countedAt at-counted ∙ sym (append-nil readsPart)
-
-  -- "Nothing follows."
-  at-end : readsAt + length readsPart ≡ length (textOf d)
-  at-end = omega (
-    arith,
-    ap length parts,
-    length-append winterPart fromPrice,
-    length-append pricePart fromCount,
-    length-append countPart fromEvents,
-    length-append eventsPart fromCounted,
-    length-append countedPart readsPart,
-  )
-
-  top-read : topOf (textOf d) ≡ top.Is (d .winter) (d .price) (length (d .events)) eventsAt
+  top-read : topOf (textOf d) ≡ top.Is (d .winter) (d .price) (length (d .events)) (eventsAt d)
   unfolding topOf
   top-read = rw (
-    keyed-reads (textOf d) (bytesOf "winter=") fromPrice 0 (d .winter) (ok .winter) parts,
-    keyed-reads (textOf d) (bytesOf "price=") fromCount priceAt (d .price) (ok .price) at-price,
-    keyed-reads (textOf d) (bytesOf "events=") fromEvents countAt (length (d .events)) (ok .count) at-count,
+    keyed-reads (textOf d) (bytesOf "winter=") (fromPrice d) 0 (d .winter) (ok .winter) (parts d),
+    keyed-reads (textOf d) (bytesOf "price=") (fromCount d) (priceAt d) (d .price) (ok .price) (at-price d),
+    keyed-reads (textOf d) (bytesOf "events=") (fromEvents d) (countAt d) (length (d .events)) (ok .count) (at-count d),
   )
 
-  events-read : LinesRead (textOf d) (eventLineAt (textOf d)) eventLine eventNumbers SmallEvent (d .events) eventsAt 4
-  events-read = lines-read (events (textOf d)) fromCounted (d .events) eventsAt 4 (ok .events) at-events
+  events-read : LinesRead (textOf d) (eventLineAt (textOf d)) eventLine eventNumbers SmallEvent (d .events) (eventsAt d) 4
+  events-read = lines-read (events (textOf d)) (fromCounted d) (d .events) (eventsAt d) 4 (ok .events) (at-events d)
 
-  counted-read : keyedAt (textOf d) countedAt (bytesOf "reads=") ≡ number.Is (length (d .reads)) readsAt
-  counted-read = keyed-reads (textOf d) (bytesOf "reads=") readsPart countedAt (length (d .reads)) (ok .counted) at-counted
+  counted-read : keyedAt (textOf d) (countedAt d) (bytesOf "reads=") ≡ number.Is (length (d .reads)) (readsAt d)
+  counted-read = keyed-reads (textOf d) (bytesOf "reads=") (readsPart d) (countedAt d) (length (d .reads)) (ok .counted) (at-counted d)
 
-  reads-read : LinesRead (textOf d) (readLineAt (textOf d)) readLine (λ x. x) SmallRead (d .reads) readsAt (length (d .events) + 4 + 1)
-  reads-read = lines-read (reads (textOf d)) [] (d .reads) readsAt (length (d .events) + 4 + 1) (ok .reads) at-reads
+  reads-read : LinesRead (textOf d) (readLineAt (textOf d)) readLine (λ x. x) SmallRead (d .reads) (readsAt d) (length (d .events) + 4 + 1)
+  reads-read = lines-read (reads (textOf d)) [] (d .reads) (readsAt d) (length (d .events) + 4 + 1) (ok .reads) (at-reads d)
 
-  reads-said : linesSaid (readLineAt (textOf d)) (length (d .reads)) readsAt ≡ d .reads
+  reads-said : linesSaid (readLineAt (textOf d)) (length (d .reads)) (readsAt d) ≡ d .reads
   reads-said = reads-read .say-them ∙ map-id (d .reads)
 
   form-read : formOf (textOf d) ≡ form.Whole (shapeOf d)
   unfolding formOf restOf
-  form-read = rw (top-read, events-read .ends, counted-read, reads-read .ends, eq-eqb (readsAt + length readsPart) (length (textOf d)) at-end, reads-said)
+  form-read = rw (
+    top-read,
+    events-read .ends,
+    counted-read,
+    reads-read .ends,
+    eq-eqb (readsAt d + length (readsPart d)) (length (textOf d)) (at-end d),
+    reads-said,
+  )
 
   says : Says (textOf d) (shapeOf d) d
   unfolding noticesSaid readsFrom readsSaid

@@ -20,7 +20,7 @@ use Rattle.form.specs.Form.{formOf}
 use Rattle.form.specs.declared.whole.Form.the-variants as form
 use Rattle.form.proofs.Begins.{bodyLines, document-long, Begins}
 use Rattle.form.proofs.Converse.{Held}
-use Rattle.form.proofs.FirstBroken.{first-broken}
+use Rattle.form.proofs.FirstBrokenLine.{first-broken-line}
 use Rattle.form.proofs.LineKinds.{first-line, lines-read}
 use Rattle.form.proofs.LinesInText.{keyed-front, lines-front}
 use Rattle.form.proofs.TextLines.{events}
@@ -142,7 +142,7 @@ module _ (d : Document) (ok : Writable d) (xs : List Line) (x : Line) (ys : List
   refused-there j long =
       let before : j + 1 - 1 ≡ length xs = omega arith in
       let next : j + 1 ≡ suc (length xs) = omega arith in
-      first-broken s (j + 1)
+      first-broken-line s (j + 1)
       (record { no-text = no-values; from-one = omega arith; before = rw before all-before; breaks = rw next no-further })
 
 -- j whole lines of some values, and a part of the next, or nothing of it

@@ -2,34 +2,30 @@
 -- written so. Proved part by part, from the laws of words, numbers and rows.
 -- Assumes nothing.
 use Prim.Native.Nat.{ℕ, _+_, _≤_}
-use mathlib.Core.List.{List, [], _∷_, _++_, append-assoc, map}
-use mathlib.Core.Path.{_≡_, refl, sym, ap, _∙_}
+use mathlib.Core.List.{List, [], _∷_, _++_, append-assoc}
+use mathlib.Core.Path.{_≡_, refl, ap, _∙_}
 use native.Mathlib.Omega.{arith}
-use lib.Dec.{eqb}
 use lib.ListN.{length, drop, length-append}
-use borrow.Author.Tests.{eqb-true}
 use Rattle.laws.proofs.Every.{Every}
 use Rattle.book.specs.Length.{dayHours}
 use Rattle.notices.specs.Notices.{noticeNumbers}
-use Rattle.numerals.proofs.Here.{Here, here-then, here-byte, past}
-use Rattle.numerals.proofs.LineLaws.{numberLine, numberBytes, fields-more, line-is}
+use Rattle.numerals.proofs.Here.{Here, here-then, past}
+use Rattle.numerals.proofs.LineLaws.{numberBytes, fields-more, line-is}
 use Rattle.numerals.proofs.ReadFields.{comma-ends, word-reads, field-reads, row-reads}
-use Rattle.numerals.proofs.Ways.{first, no-step, after-field, after-step}
+use Rattle.numerals.proofs.Ways.{first, after-field, after-step}
 use Rattle.numerals.proofs.WrittenFields.{word-written, field-written}
 use Rattle.numerals.proofs.WrittenRows.{row-written}
 use Rattle.numerals.specs.Decimal.{decimal}
 use Rattle.numerals.specs.Fields.{Small, fieldAt, wordAt}
-use Rattle.numerals.specs.Lines.{Line, fieldBytes, lineBytes}
-use Rattle.numerals.specs.Rows.{Read, noNumber, rowAt}
+use Rattle.numerals.specs.Lines.{lineBytes}
+use Rattle.numerals.specs.Rows.{rowAt}
 use Rattle.numerals.specs.Words.{bytesOf, comma}
-use Rattle.numerals.specs.declared.fields.Step.{Step}
 use Rattle.numerals.specs.declared.fields.Step.the-variants as step
 use Rattle.form.specs.Document.{EventLine, ReadLine, eventNumbers, eventLine, readLine, SmallEvent, SmallRead}
-use Rattle.form.specs.Lines.{exactly, eventLineAt, headAt, afterHead, noRead, readFrom, readLineAt}
-use Rattle.form.specs.declared.lines.Head.{Head}
+use Rattle.form.specs.Lines.{eventLineAt, headAt, readLineAt}
 use Rattle.form.specs.declared.lines.Head.the-variants as head
 use Rattle.form.proofs.LineKinds.{Kind, LineWritten}
-use Rattle.form.proofs.LineLaws.{event-read, read-read}
+use Rattle.form.proofs.OneLine.{event-read, read-read}
 
 -- an event line: its key, and three numbers
 event-reads : (s r : List ℕ) (at : ℕ) (x : EventLine) → SmallEvent x → drop at s ≡ lineBytes (eventLine x) ++ r
@@ -57,7 +53,12 @@ three (a ∷ []) small e = absurd (omega arith)
 three (a ∷ (b ∷ [])) small e = absurd (omega arith)
 three (a ∷ (b ∷ (c ∷ []))) small e = record {
   value = record { day = a; start = b; end = c };
-  fits = record { day = small .0; start = small .1 .0; end = small .1 .1 .0 };
+  fits =
+      record {
+        day = small .0;
+        start = small .1 .0;
+        end = small .1 .1 .0;
+      };
   is = refl;
 }
 three (a ∷ (b ∷ (c ∷ (d ∷ ns)))) small e = absurd (omega arith)

@@ -16,9 +16,9 @@ use Rattle.energy.specs.Asked.{askedBy}
 use Rattle.energy.specs.Line.{lineOf}
 use Rattle.references.specs.ReferenceDays.{freeIn}
 use Rattle.event_hours.specs.Days.{masksOf}
-use Rattle.form.proofs.Begins.{FirstBroken}
+use Rattle.form.proofs.Begins.{FirstBrokenLine}
 use Rattle.form.proofs.Converse.{Held, form-written}
-use Rattle.form.proofs.FirstBroken.{broken-first}
+use Rattle.form.proofs.FirstBrokenLine.{broken-first}
 use Rattle.form.proofs.PlaceLaws.{book-days}
 use Rattle.form.proofs.RoundTrip.{shapeOf, text-read}
 use Rattle.form.specs.Document.{Document, textOf, Writable, noticesIn}
@@ -73,7 +73,7 @@ text-settled d ok h =
 -- and a text of no values is refused with 30 and the first line that breaks the form
 pub record Refused30 (s : List ℕ) : Type 0 where
   pub line : ℕ
-  pub first : FirstBroken s line
+  pub first : FirstBrokenLine s line
   pub is : statementOf s ≡ refusedBytes 30 line
 
 pub no-values : (s : List ℕ) → length s ≤ mostBytes → (Held s → ⊥) → Refused30 s

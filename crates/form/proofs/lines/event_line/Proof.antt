@@ -2,7 +2,7 @@
 -- Assumes nothing.
 use mathlib.Core.Path.{sym, _∙_}
 use borrow.Author.Needs.{needs}
-use Rattle.form.proofs.LineLaws.{event-no-word, event-broken, event-other, event-is}
+use Rattle.form.proofs.OneLine.{event-no-word, event-broken, event-other, event-is}
 use Rattle.form.proofs.lines.event_line.Statement.{statement}
 use Rattle.form.proofs.lines.event_line.Tie as tie
 

@@ -2,7 +2,7 @@
 -- Assumes nothing.
 use mathlib.Core.Path.{sym, _∙_}
 use borrow.Author.Needs.{needs}
-use Rattle.form.proofs.LineLaws.{read-no-head, read-broken, read-whole}
+use Rattle.form.proofs.OneLine.{read-no-head, read-broken, read-whole}
 use Rattle.form.proofs.lines.read_line.Statement.{statement}
 use Rattle.form.proofs.lines.read_line.Tie as tie
 

@@ -21,7 +21,7 @@ use Rattle.form.specs.declared.whole.Form.the-variants as form
 use Rattle.form.specs.declared.whole.Shape.{Shape}
 use Rattle.form.specs.declared.whole.Top.{Top}
 use Rattle.form.specs.declared.whole.Top.the-variants as top
-use Rattle.form.proofs.Begins.{FirstBroken, one-first}
+use Rattle.form.proofs.Begins.{FirstBrokenLine, one-first}
 use Rattle.form.proofs.BrokenBody.{no-event, no-counted, no-read, no-end}
 use Rattle.form.proofs.BrokenTop.{no-winter, no-price, no-count}
 use Rattle.form.proofs.Converse.{Held, form-written, TopRead, top-read}
@@ -54,7 +54,7 @@ module _ {A P : Type 0} {z : A} where
   broken-or-top broken (top.Is winter price events p) go e f g = g winter price events p refl e
 
 module _ (s : List ℕ) (k : ℕ) (never : Held s → ⊥) where
-  in-top : topOf s ≡ top.Broken k → FirstBroken s k
+  in-top : topOf s ≡ top.Broken k → FirstBrokenLine s k
   unfolding topOf
   in-top e =
       broken-or-number (top.Broken 1) (keyedAt s 0 (bytesOf "winter=")) _ e (λ none same. no-winter s k never none (cc same))
@@ -65,7 +65,7 @@ module _ (s : List ℕ) (k : ℕ) (never : Held s → ⊥) where
       (λ count at is-count same. absurd (no-broken-top k winter price count at same))))
 
   in-rest : {winter price n at : ℕ} → TopRead s winter price n at → (q : ℕ) → linesEnd (eventLineAt s) n at 4 ≡ lines.Whole q
-      → restOf s winter price n q ≡ form.Broken k → FirstBroken s k
+      → restOf s winter price n q ≡ form.Broken k → FirstBrokenLine s k
   unfolding restOf
   in-rest {winter} {price} {n} head q are-events e =
       broken-or-number (form.Broken (n + 4)) (keyedAt s q (bytesOf "reads=")) _ e
@@ -76,7 +76,7 @@ module _ (s : List ℕ) (k : ℕ) (never : Held s → ⊥) where
       let end = second (eqb t (length s)) _ (form.Broken (n + 4 + 1 + m)) (no-broken k _) e₂ in
       no-end s never head q are-events m r is-counted k t whole (cc (end .1))))
 
-  in-text : formOf s ≡ form.Broken k → FirstBroken s k
+  in-text : formOf s ≡ form.Broken k → FirstBrokenLine s k
   unfolding formOf
   in-text e =
       broken-or-top form.Broken (topOf s) _ e (λ l x same. in-top (x ∙ ap top.Broken (cc same)))
@@ -87,12 +87,12 @@ module _ (s : List ℕ) (k : ℕ) (never : Held s → ⊥) where
       (λ q are-events e₂. in-rest head q are-events e₂))
 
 -- the line that refusal 30 names is the first that breaks the form
-pub broken-first : (s : List ℕ) (k : ℕ) → formOf s ≡ form.Broken k → FirstBroken s k
+pub broken-first : (s : List ℕ) (k : ℕ) → formOf s ≡ form.Broken k → FirstBrokenLine s k
 broken-first s k e = in-text s k (λ h. let f = form-of-held s h in no-broken k (f .shape) (sym (f .is) ∙ e)) e
 
 -- and the first line that breaks the form is the one that refusal 30 names
-pub first-broken : (s : List ℕ) (k : ℕ) → FirstBroken s k → formOf s ≡ form.Broken k
-first-broken s k b = by (formOf s) refl
+pub first-broken-line : (s : List ℕ) (k : ℕ) → FirstBrokenLine s k → formOf s ≡ form.Broken k
+first-broken-line s k b = by (formOf s) refl
   where
     by : (f : Form) → formOf s ≡ f → f ≡ form.Broken k
     by (form.Whole f) e = absurd (b .no-text (form-written s f e))
