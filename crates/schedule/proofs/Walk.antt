@@ -86,11 +86,17 @@ module _ (w : Winter) (f : Figures) (so : Sofar) (n : Notice) (k : ℕ) {a : Ans
   unfolding noticeRows
   notice-stop e = own ∙ part-stops (ownRows w f n k) (listRows f so n k) (ap isRefusal (sym own) ∙ e)
 
+  own-kept : isRefusal a ≡ false → NoneBroken (ownRows w f n k)
+  own-kept e = unrefused-none (ownRows w f n k) (own-numbered w f n k) (ap isRefusal (sym own) ∙ e)
+
+  -- a notice that has passed its own rules is short
+  pub own-fits : Sane f → so .hours ≤ mostHours → isRefusal a ≡ false → HoursFit so n
+  unfolding ownRows
+  own-fits ok small e = record { sofar = small; notice = hours-fit f n ok (own-kept e .1 .1 .1 .1 .0) }
+
   pub notice-go : {b : Answer} → isRefusal a ≡ false → b ≡ firstOf (listRows f so n k) → b ≡ firstOf (noticeRows w f so n k)
   unfolding noticeRows
-  notice-go e q =
-      let kept = unrefused-none (ownRows w f n k) (own-numbered w f n k) (ap isRefusal (sym own) ∙ e) in
-      q ∙ part-goes (ownRows w f n k) (listRows f so n k) kept
+  notice-go e q = q ∙ part-goes (ownRows w f n k) (listRows f so n k) (own-kept e)
 
 pub rows-numbered : (w : Winter) (f : Figures) (l : List ℕ) (k : ℕ) → Numbered (rowsAt w f l k)
 unfolding rowsAt

@@ -22,6 +22,12 @@ pub record Walkable (w : Winter) (f : Figures) (l : List ℕ) (count : ℕ) : Ty
   pub few : count ≤ mostNotices
   pub there : count ≤ countOf l
 
+-- a notice can be judged: the winter is one, the figures are sane, and the hours so far are small
+pub record Judgeable (w : Winter) (f : Figures) (so : Sofar) : Type 0 where
+  pub winter : wrongWinter w ≡ false
+  pub figures : Sane f
+  pub sofar : so .hours ≤ mostHours
+
 -- the hours so far and those of a notice are small, so that their sum is
 pub record HoursFit (so : Sofar) (n : Notice) : Type 0 where
   pub sofar : so .hours ≤ mostHours

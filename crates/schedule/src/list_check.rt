@@ -8,7 +8,7 @@ ghost use Rattle.laws.specs.Rows.{rowsTo};
 ghost use Rattle.laws.specs.Table.{firstOf};
 ghost use Rattle.notices.specs.Notices.{countOf, noticeAt};
 ghost use Rattle.schedule.specs.Verdicts.{verdictPaper};
-ghost use Rattle.schedule.specs.Walkable.{Walkable, HoursFit};
+ghost use Rattle.schedule.specs.Walkable.{Walkable, Judgeable, HoursFit};
 ghost use Rattle.schedule.specs.ListCheck.{ownRows, listRows, noticeRows, nothingBefore, afterNotice, rowsAt, badList, checkedIn, checkAnswer};
 use crate::rules::Sofar;
 use crate::rules::barred_weekend;
@@ -52,6 +52,7 @@ fn own_verdict(w: Winter, f: Figures, n: Notice, k: u32) -> Verdict
 
 // Rules 15, 16 and 18: the notice at place k among the others.
 fn list_verdict(f: Figures, so: Sofar, n: Notice, k: u32) -> Verdict
+    requires { ⌜ HoursFit so n ⌝ }
     ensures { λ r. ⌜ verdictPaper r ≡ firstOf (listRows f so n k) ⌝ }
 {
     let event = so.event;
@@ -69,7 +70,7 @@ fn list_verdict(f: Figures, so: Sofar, n: Notice, k: u32) -> Verdict
 
 // All rules of the notice at place k.
 fn notice_verdict(w: Winter, f: Figures, so: Sofar, n: Notice, k: u32) -> Verdict
-    requires { ⌜ wrongWinter w ≡ false ⌝ }
+    requires { ⌜ Judgeable w f so ⌝ }
     ensures { λ r. ⌜ verdictPaper r ≡ firstOf (noticeRows w f so n k) ⌝ }
 {
     let own = own_verdict(w, f, n, k);

@@ -2,7 +2,7 @@
 ghost use mathlib.Core.Path.{_≡_};
 ghost use mathlib.Core.Bool.{true, false};
 ghost use Rattle.calendar.specs.Days.{wrongWinter, inPeriod};
-ghost use Rattle.schedule.specs.Walkable.{KindOn};
+ghost use Rattle.schedule.specs.Walkable.{KindOn, HoursFit};
 ghost use Rattle.schedule.specs.Rules.{barredWeekend, startsBefore, sameBand, overLimit};
 use calendar::DayKind;
 use calendar::Kind;
@@ -71,10 +71,11 @@ pub(crate) fn same_band(f: Figures, event: Notice, n: Notice) -> bool
     (event.day == n.day) & ((event.start < f.evening.start) == (n.start < f.evening.start))
 }
 
-// 18: the total hours pass the winter's limit with this notice. In 64 bits no sum wraps.
+// 18: the total hours pass the winter's limit with this notice.
 pub(crate) fn over_limit(f: Figures, so: Sofar, n: Notice) -> bool
+    requires { ⌜ HoursFit so n ⌝ }
     ensures { λ r. ⌜ r ≡ overLimit f so n ⌝ }
 {
     let hours = notices::hours_of(n);
-    (f.hours as u64) < (so.hours as u64) + (hours as u64)
+    f.hours < so.hours + hours
 }

@@ -27,7 +27,10 @@ cast-notice-verdict : tie.Need-cast-notice-verdict Inv-loop μ-loop
 cast-notice-verdict c = search needs
 
 notice-verdict-requires : tie.Need-notice-verdict-requires Inv-loop μ-loop
-notice-verdict-requires c κs = search needs
+notice-verdict-requires c κs =
+    let loop = c .before .before in
+    let start = loop .before .before .before in
+    record { winter = start .pre .winter; figures = start .pre .figures; sofar = loop .loop .inv .small }
 
 is-refused-requires : tie.Need-is-refused-requires Inv-loop μ-loop
 is-refused-requires c κs = search needs

@@ -2,7 +2,7 @@
 -- Assumes nothing.
 use borrow.Author.Needs.{needs}
 use Rattle.laws.proofs.Guards.{found}
-use Rattle.schedule.proofs.Walk.{notice-stop, notice-go}
+use Rattle.schedule.proofs.Walk.{notice-stop, notice-go, own-fits}
 use Rattle.schedule.proofs.list_check.notice_verdict.Statement.{statement}
 use Rattle.schedule.proofs.list_check.notice_verdict.Tie as tie
 
@@ -18,7 +18,11 @@ returns c =
     notice-stop _ _ _ _ _ (asked .before .own-verdict .ensures) (found (asked .is-refused .ensures) (c .if1 .taken))
 
 list-verdict-requires : tie.Need-list-verdict-requires
-list-verdict-requires c κs = search needs
+list-verdict-requires c κs =
+    let asked = c .before in
+    let judged = asked .before in
+    let ready = judged .before .pre in
+    own-fits _ _ _ _ _ (judged .own-verdict .ensures) (ready .figures) (ready .sofar) (found (asked .is-refused .ensures) (c .if1 .left))
 
 returns-2 : tie.Need-returns-2
 returns-2 c =
