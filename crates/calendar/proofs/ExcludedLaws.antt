@@ -1,47 +1,34 @@
 -- Laws of the excluded days: one for each way out of the walk over the fixed days and of the test.
 -- Assumes nothing.
 use Prim.Native.Nat.{ℕ, _+_, _≤_, _<_}
-use mathlib.Core.Bool.{Bool, true, false, _||_}
+use mathlib.Core.Bool.{true, false, _||_}
 use mathlib.Core.List.{List}
-use mathlib.Core.Logic.{_⊎_, inl, inr}
-use mathlib.Core.Path.{_≡_, refl}
+use mathlib.Core.Path.{_≡_}
 use native.Mathlib.Numerals.{add-one}
 use native.Mathlib.Omega.{arith}
-use lib.Dec.{eqb, ltb}
+use lib.Dec.{eqb}
 use lib.ListN.{length, getD, drop}
 use lib.Seq.{drop-cons}
-use borrow.Author.Tests.{eq-eqb, ne-eqb, ltb-true}
+use borrow.Author.Tests.{eq-eqb, ne-eqb}
 use Rattle.calendar.specs.Excluded.{among, fixedDays, goodFriday, easterMonday, excluded}
 use Rattle.calendar.specs.Days.{noDay}
 use Rattle.calendar.specs.declared.answers.Winter.{Winter}
 
--- no day before the first fixed one or after the last is one of them
-pub outside-fixed : (d : ℕ) → (ltb d 53 || ltb 62 d) ≡ true → false ≡ among d fixedDays
+-- no day before the first fixed one is one of them
+pub before-fixed : (d : ℕ) → d < 53 → false ≡ among d fixedDays
 unfolding among
-outside-fixed d e = by (either (ltb d 53) (ltb 62 d) e)
+before-fixed d h =
+    rw (
+      ne-eqb 53 d (differ 53 (omega arith)),
+      ne-eqb 54 d (differ 54 (omega arith)),
+      ne-eqb 55 d (differ 55 (omega arith)),
+      ne-eqb 60 d (differ 60 (omega arith)),
+      ne-eqb 61 d (differ 61 (omega arith)),
+      ne-eqb 62 d (differ 62 (omega arith)),
+    )
   where
-    either : (a b : Bool) → (a || b) ≡ true → (a ≡ true) ⊎ (b ≡ true)
-    either true b h = inl refl
-    either false b h = inr h
-
-    differ : (x : ℕ) → (53 ≤ x) × (x ≤ 62) → (d < 53) ⊎ (62 < d) → x ≡ d → ⊥
-    differ x r (inl h) q = omega arith
-    differ x r (inr h) q = omega arith
-
-    none : (d < 53) ⊎ (62 < d) → false ≡ among d fixedDays
-    none h =
-        rw (
-          ne-eqb 53 d (differ 53 (omega arith) h),
-          ne-eqb 54 d (differ 54 (omega arith) h),
-          ne-eqb 55 d (differ 55 (omega arith) h),
-          ne-eqb 60 d (differ 60 (omega arith) h),
-          ne-eqb 61 d (differ 61 (omega arith) h),
-          ne-eqb 62 d (differ 62 (omega arith) h),
-        )
-
-    by : (ltb d 53 ≡ true) ⊎ (ltb 62 d ≡ true) → false ≡ among d fixedDays
-    by (inl h) = none (inl (ltb-true d 53 h))
-    by (inr h) = none (inr (ltb-true 62 d h))
+    differ : (x : ℕ) → 53 ≤ x → x ≡ d → ⊥
+    differ x r q = omega arith
 
 pub among-found : (d : ℕ) (xs : List ℕ) (i : ℕ) → i < length xs → getD xs i 0 ≡ d → among d (drop i xs) ≡ true
 unfolding among

@@ -7,7 +7,7 @@ use native.Mathlib.Omega.{arith}
 use lib.ListN.{drop}
 use borrow.Author.Needs.{needs}
 use Rattle.calendar.specs.Excluded.{among, fixedDays}
-use Rattle.calendar.proofs.ExcludedLaws.{outside-fixed, among-found, among-skip}
+use Rattle.calendar.proofs.ExcludedLaws.{before-fixed, among-found, among-skip}
 use Rattle.calendar.proofs.excluded.is_fixed.Statement.{statement}
 use Rattle.calendar.proofs.excluded.is_fixed.Tie as tie
 
@@ -18,7 +18,7 @@ abbrev μ-loop : tie.MeasureT-loop
 μ-loop day i₀ i = 6 - i
 
 returns : tie.Need-returns Inv-loop μ-loop
-returns c = outside-fixed _ (c .if1 .taken)
+returns c = before-fixed _ (c .if1 .taken)
 
 loop-holds : tie.Need-loop-holds Inv-loop μ-loop
 loop-holds c = search needs
@@ -31,8 +31,11 @@ array-read-if2 c = search needs
 
 returns-2 : tie.Need-returns-2 Inv-loop μ-loop
 returns-2 c =
-    sym (among-found (c .before .before .before .before .args .day) fixedDays (c .before .before .loop .i) (c .before .loop-test .taken) (c .if2 .taken))
-    ∙ c .before .before .loop .inv .1
+    let turn = c .before in
+    let loop = turn .before in
+    let start = loop .before .before in
+    sym (among-found (start .args .day) fixedDays (loop .loop .i) (turn .loop-test .taken) (c .if2 .taken))
+    ∙ loop .loop .inv .1
 
 add-i : tie.Need-add-i Inv-loop μ-loop
 add-i c = search needs
@@ -41,17 +44,19 @@ loop-less : tie.Need-loop-less Inv-loop μ-loop
 loop-less c = search needs
 
 loop-again : tie.Need-loop-again Inv-loop μ-loop
-loop-again c = (
-  search needs,
-  sym (among-skip (c .before .before .before .before .args .day) fixedDays (c .before .before .loop .i) (c .before .loop-test .taken) (c .if2 .left))
-      ∙ c .before .before .loop .inv .1,
-)
+loop-again c =
+    let turn = c .before in
+    let loop = turn .before in
+    let start = loop .before .before in
+    (search needs, sym (among-skip (start .args .day) fixedDays (loop .loop .i) (turn .loop-test .taken) (c .if2 .left)) ∙ loop .loop .inv .1)
 
 returns-3 : tie.Need-returns-3 Inv-loop μ-loop
 unfolding among
 returns-3 c =
-    let e : c .before .loop .i ≡ 6 = omega arith in
-    sym (ap (λ (k : ℕ). among (c .before .before .before .args .day) (drop k fixedDays)) e) ∙ c .before .loop .inv .1
+    let loop = c .before in
+    let start = loop .before .before in
+    let e : loop .loop .i ≡ 6 = omega arith in
+    sym (ap (λ (k : ℕ). among (start .args .day) (drop k fixedDays)) e) ∙ loop .loop .inv .1
 
 pub is-fixed-spec : {M : Type 1} → statement M
 is-fixed-spec =
