@@ -2,12 +2,13 @@
 -- Assumes nothing.
 use Prim.Native.Nat.{ℕ, _*_, _/_, _%_, _≤_, _<_}
 use mathlib.Core.Bool.{Bool, true, false, cond}
-use mathlib.Core.List.{List}
+use mathlib.Core.List.{List, _++_}
 use mathlib.Core.Logic.{⊎-elim}
-use mathlib.Core.Path.{_≡_, refl, ap, _∙_}
+use mathlib.Core.Path.{_≡_, refl, sym, ap, _∙_}
 use native.Mathlib.Omega.{arith}
 use lib.Dec.{eqb}
-use lib.ListN.{length, replicate, length-replicate}
+use lib.ListN.{length, take, drop, replicate, length-append, length-replicate}
+use lib.Seq.{take-at, length-take-le}
 use borrow.Author.Tests.{eq-eqb, eqb-true}
 use Rattle.dates.proofs.Promise.{days-two}
 use Rattle.dates.specs.Winters.{days}
@@ -64,7 +65,7 @@ room-few n = by (badList (numberCount n)) refl
     by true q = omega (arith, room-cases n true q)
     by false q = let f = list-fits (numberCount n) q in omega (arith, room-cases n false q)
 
-pub read-checks : (w profile : ℕ) (list numbers : List ℕ) → length numbers ≡ listRoom (length list)
+read-checks : (w profile : ℕ) (list numbers : List ℕ) → length numbers ≡ listRoom (length list)
     → checkAnswer w profile (numbersRead list numbers) ≡ checkAnswer w profile (decoded list)
 read-checks w profile list numbers e = by (badList (numberCount (length list))) refl
   where
@@ -75,6 +76,25 @@ read-checks w profile list numbers e = by (badList (numberCount (length list))) 
     by false q =
         let g = good-numbers (length list) q in
         rw (read-whole list numbers (e ∙ room-cases (length list) false q ∙ g .count), decoded-whole list (g .none-over))
+
+-- what was read of a list at the front of longer room
+module _ (list room x : List ℕ) (n : ℕ) (is : n ≡ listRoom (length list)) (fits : n ≤ length room) (read : x ≡ numbersRead list (take n room)) where
+  front-long : length x ≡ n
+  front-long = ap length read ∙ read-long list (take n room) ∙ length-take-le n room fits
+
+  front-read : take n (x ++ drop n room) ≡ x
+  front-read = take-at x (drop n room) n front-long
+
+  pub read-fits : n ≤ length (x ++ drop n room)
+  read-fits = simp length-append (omega (arith, front-long))
+
+  pub read-count : n ≡ length (take n (x ++ drop n room))
+  read-count = sym (ap length front-read ∙ front-long)
+
+  pub front-checks : (w profile : ℕ) → checkAnswer w profile (take n (x ++ drop n room)) ≡ checkAnswer w profile (decoded list)
+  front-checks w profile =
+      ap (checkAnswer w profile) (front-read ∙ read)
+      ∙ read-checks w profile list (take n room) (length-take-le n room fits ∙ is)
 
 -- the settlement: lengths that are not refused are of whole numbers, and there is room for them
 pub record RightLengths (book list out : ℕ) : Type 0 where

@@ -2,7 +2,8 @@
 ghost use mathlib.Core.Path.{_≡_};
 ghost use Prim.Native.Nat.{_≤_};
 ghost use lib.ListN.{length};
-ghost use Rattle.boundary.specs.Calls.{checkCall};
+ghost use Rattle.schedule.specs.ListCheck.{checkAnswer};
+ghost use Rattle.boundary.specs.Calls.{packedAnswer, checkCall};
 ghost use Rattle.boundary.specs.Lent.{listRoom};
 use crate::lent::list_room;
 use crate::packing::pack_verdict;
@@ -10,22 +11,21 @@ use crate::packing::pack_verdict;
 // How many numbers a short list has at most.
 const SHORT_LIST: usize = 30;
 
-// The list check, with room for the numbers of the list.
-fn check_in(winter: u32, profile: u32, list: &[u8], numbers: &mut [u32]) -> u32
-    requires { ⌜ length (now numbers) ≡ listRoom (length (now list)) ⌝ }
-    ensures { λ r. ⌜ r ≡ checkCall winter profile (now (list .entry)) ⌝ }
+// The list check on numbers, its answer as C is told it.
+fn check_numbers(winter: u32, profile: u32, list: &[u32]) -> u32
+    ensures { λ r. ⌜ r ≡ packedAnswer (checkAnswer winter profile (now (list .entry))) ⌝ }
 {
-    wire::read_numbers(list, numbers);
-    pack_verdict(schedule::check(winter, profile, numbers))
+    pack_verdict(schedule::check(winter, profile, list))
 }
 
-// The same of a list of at most ten notices. A room is cleared before it is filled, and so small a one in no time.
+// The list check of a list of at most ten notices. A room is cleared before it is filled, and a small one takes less of that.
 fn check_short(winter: u32, profile: u32, list: &[u8], count: usize) -> u32
     requires { ⌜ (count ≡ listRoom (length (now list))) × (count ≤ 30) ⌝ }
     ensures { λ r. ⌜ r ≡ checkCall winter profile (now (list .entry)) ⌝ }
 {
     let mut numbers = [0u32; SHORT_LIST];
-    check_in(winter, profile, list, &mut numbers[..count])
+    wire::read_numbers(list, &mut numbers[..count]);
+    check_numbers(winter, profile, &numbers[..count])
 }
 
 // The same of any list.
@@ -34,7 +34,8 @@ fn check_long(winter: u32, profile: u32, list: &[u8], count: usize) -> u32
     ensures { λ r. ⌜ r ≡ checkCall winter profile (now (list .entry)) ⌝ }
 {
     let mut numbers = [0u32; notices::LONGEST_LIST];
-    check_in(winter, profile, list, &mut numbers[..count])
+    wire::read_numbers(list, &mut numbers[..count]);
+    check_numbers(winter, profile, &numbers[..count])
 }
 
 // Whether a list of notices, lent as bytes, stands under a profile in a winter: 0, or 65,536 times the refusal number plus the place.
