@@ -22,7 +22,7 @@ use Rattle.wire.proofs.WriteLaws.{written-whole}
 use Rattle.wire.specs.Bytes.{numbersRead, bytesWritten}
 use Rattle.boundary.specs.Calls.{packed, packedSettlement, linesOver, settledOver, settleCall, settleBytes}
 use Rattle.boundary.specs.Lent.{numberCount, decoded}
-use Rattle.boundary.specs.Whole.{JustRoom, wholeNumbers, wholeCall, wholeBytes, Settles}
+use Rattle.boundary.specs.Whole.{JustRoom, wholeNumbers, wholeCall, wholeBytes, SettledBytes}
 use Rattle.boundary.proofs.LentLaws.{RightLengths, decoded-long, decoded-whole, right-lengths}
 
 -- what was read with just the room for it
@@ -94,7 +94,7 @@ module _ (w p : ℕ) (book list out : List ℕ) (r : RightLengths (length book) 
   unfolding wholeBytes settleBytes settledOver wholeNumbers
   whole-bytes = rw (room-is, decoded-whole book (r .book-whole), decoded-whole list (r .list-whole))
 
-  pub whole-settles : {answer : ℕ} {after : List ℕ} → Settles w (wholeNumbers book) p (wholeNumbers list) out answer after
+  pub whole-settles : {answer : ℕ} {after : List ℕ} → SettledBytes w (wholeNumbers book) p (wholeNumbers list) out answer after
       → (answer ≡ settleCall w book p list (length out)) × (after ≡ settleBytes w book p list out)
   whole-settles s = (s .answer-is ∙ whole-call, s .bytes-are ∙ whole-bytes)
 
@@ -115,7 +115,7 @@ module _ (w p : ℕ) (book list lines out : List ℕ) (room : JustRoom list (len
   unfolding wholeBytes settledOver
   just-untouched f = rw (← just-is, ne-eqb (s .number) 0 f)
 
-  pub just-refused : {answer : ℕ} → (s .number ≡ 0 → ⊥) → answer ≡ packedSettlement s → Settles w book p list out answer out
+  pub just-refused : {answer : ℕ} → (s .number ≡ 0 → ⊥) → answer ≡ packedSettlement s → SettledBytes w book p list out answer out
   just-refused f q = record { answer-is = q ∙ just-call; bytes-are = just-untouched f }
 
   module _ (z : s .number ≡ 0) where
@@ -135,5 +135,5 @@ module _ (w p : ℕ) (book list lines out : List ℕ) (room : JustRoom list (len
           let over : out′ ≡ linesOver w book p list out = o ∙ written-whole lines′ out (omega (arith, room .bytes-fit)) ∙ rw (long, are) in
           rw (← just-is, eq-eqb (s .number) 0 z) over
 
-      pub just-settled : Settles w book p list out 0 out′
+      pub just-settled : SettledBytes w book p list out 0 out′
       just-settled = record { answer-is = just-accepted; bytes-are = just-written }

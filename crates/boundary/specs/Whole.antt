@@ -34,6 +34,6 @@ unfoldable pub wholeBytes : ℕ → List ℕ → ℕ → List ℕ → List ℕ �
 wholeBytes w book p list out = settledOver w book p list (lineNumbers * countOf list) out
 
 -- what a settlement of numbers leaves: its answer to C, and the bytes of the output
-pub record Settles (w : ℕ) (book : List ℕ) (p : ℕ) (list out : List ℕ) (answer : ℕ) (after : List ℕ) : Type 0 where
+pub record SettledBytes (w : ℕ) (book : List ℕ) (p : ℕ) (list out : List ℕ) (answer : ℕ) (after : List ℕ) : Type 0 where
   pub answer-is : answer ≡ wholeCall w book p list
   pub bytes-are : after ≡ wholeBytes w book p list out

@@ -2,11 +2,11 @@
 ghost use mathlib.Core.Path.{_≡_};
 ghost use lib.ListN.{length};
 ghost use Rattle.boundary.specs.Calls.{settleCall, settleBytes};
-ghost use Rattle.boundary.specs.Whole.{Lengths, JustRoom, wholeNumbers, Settles};
+ghost use Rattle.boundary.specs.Whole.{Lengths, JustRoom, wholeNumbers, SettledBytes};
 use crate::lent::numbers_in;
 use crate::packing::pack;
 
-// Settles numbers into lines, for which there is just the room, and writes the bytes of the lines.
+// SettledBytes numbers into lines, for which there is just the room, and writes the bytes of the lines.
 fn settle_numbers(
     winter: u32,
     book: &[u32],
@@ -16,7 +16,7 @@ fn settle_numbers(
     out: &mut [u8],
 ) -> u32
     requires { ⌜ JustRoom (now list) (length (now lines)) (length (now out)) ⌝ }
-    ensures { λ r. ⌜ Settles winter (now (book .entry)) price (now (list .entry)) (now (out .entry)) r (now (out .exit)) ⌝ }
+    ensures { λ r. ⌜ SettledBytes winter (now (book .entry)) price (now (list .entry)) (now (out .entry)) r (now (out .exit)) ⌝ }
 {
     let s = credit::settle(winter, book, price, list, lines);
     let number = s.number;
@@ -31,7 +31,7 @@ fn settle_numbers(
 // The same from bytes of the right lengths, with room of its own for the numbers.
 fn settle_whole(winter: u32, book: &[u8], price: u32, list: &[u8], out: &mut [u8]) -> u32
     requires { ⌜ Lengths (length (now book)) (length (now list)) (length (now out)) ⌝ }
-    ensures { λ r. ⌜ Settles winter (wholeNumbers (now (book .entry))) price (wholeNumbers (now (list .entry))) (now (out .entry)) r (now (out .exit)) ⌝ }
+    ensures { λ r. ⌜ SettledBytes winter (wholeNumbers (now (book .entry))) price (wholeNumbers (now (list .entry))) (now (out .entry)) r (now (out .exit)) ⌝ }
 {
     let mut readings = [0u32; book::MOST_READINGS];
     let mut numbers = [0u32; notices::LONGEST_LIST];
@@ -51,7 +51,7 @@ fn settle_whole(winter: u32, book: &[u8], price: u32, list: &[u8], out: &mut [u8
     )
 }
 
-// Settles a winter whose book and list are lent as bytes, into the bytes of an output: 0, or 65,536 times the refusal number plus the place.
+// SettledBytes a winter whose book and list are lent as bytes, into the bytes of an output: 0, or 65,536 times the refusal number plus the place.
 pub fn settle_bytes(winter: u32, book: &[u8], price: u32, list: &[u8], out: &mut [u8]) -> u32
     ensures { λ r. ⌜ r ≡ settleCall winter (now (book .entry)) price (now (list .entry)) (length (now (out .entry))) ⌝ }
     ensures { λ _. ⌜ now (out .exit) ≡ settleBytes winter (now (book .entry)) price (now (list .entry)) (now (out .entry)) ⌝ }

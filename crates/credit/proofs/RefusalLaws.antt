@@ -1,41 +1,22 @@
--- Laws of the refusals, one for each way out: what each guard refuses with the days that the calendar gave, and what is known of a call
--- that is not refused.
+-- Laws of the refusals: what is known of a call and of a settlement that are not refused, and the other way round; bounds of what is refused.
 -- Assumes nothing.
 use Prim.Native.Nat.{ℕ, _*_, _%_, _≤_}
-use mathlib.Core.Bool.{true, false}
+use mathlib.Core.Bool.{false}
 use mathlib.Core.List.{List, _++_}
-use mathlib.Core.Path.{_≡_, refl, sym, ap, subst, _∙_}
+use mathlib.Core.Path.{_≡_, sym, ap, subst, _∙_}
 use native.Mathlib.Omega.{arith}
 use lib.ListN.{length}
 use borrow.Author.Tests.{ne-eqb, ltb-false, le-ltb}
 use Rattle.book.proofs.LengthLaws.{right-length, length-right}
 use Rattle.book.specs.Length.{bookLength, wrongLength}
-use Rattle.dates.proofs.Promise.{winter-range, is-winter, winter-count}
-use Rattle.dates.specs.Answers.{daysPaper, winterDays}
-use Rattle.dates.specs.Winters.{noWinter, days}
-use Rattle.dates.specs.declared.answers.Days.the-variants.{Are}
-use Rattle.dates.specs.declared.answers.Days.{Days}
+use Rattle.dates.proofs.Promise.{winter-range}
+use Rattle.dates.specs.Winters.{days}
 use Rattle.calendar.specs.WinterOf.{winterOf}
 use Rattle.laws.proofs.Every.{left, right, joined}
-use Rattle.laws.proofs.Tables.{
-  Numbered,
-  NoneBroken,
-  row-stops,
-  row-goes,
-  rows-end,
-  unrefused-none,
-  none-accepted,
-  part-stops,
-  part-goes,
-  Bounded,
-  RowsBounded,
-  bounded-first,
-  bounded-parts,
-}
+use Rattle.laws.proofs.Tables.{Numbered, NoneBroken, unrefused-none, none-accepted, part-stops, part-goes, Bounded, RowsBounded, bounded-first, bounded-parts}
 use Rattle.laws.specs.Bounds.{largestNumber}
 use Rattle.laws.specs.Table.{refusalAt, Row, firstOf, isRefusal}
 use Rattle.money.proofs.PriceLaws.{RightPrice, right-price, price-right}
-use Rattle.money.specs.Price.{badPrice}
 use Rattle.notices.specs.Notices.{noticeNumbers, mostNotices, countIn, countOf}
 use Rattle.notices.specs.Profiles.{figuresOf}
 use Rattle.notices.specs.declared.profiles.Profile.the-variants.{Credit}
@@ -43,43 +24,10 @@ use Rattle.schedule.proofs.Accepted.{Lawful, whole-test, notices-lawful, lawful
 use Rattle.schedule.proofs.Bounds.{notices-bounded}
 use Rattle.schedule.proofs.RuleLaws.{checked-notices}
 use Rattle.schedule.proofs.Walk.{list-fits, notices-numbered}
-use Rattle.schedule.specs.ListCheck.{noticesTable, badList, checkedIn}
+use Rattle.schedule.specs.ListCheck.{noticesTable, checkedIn}
 use Rattle.credit.specs.Lines.{lineNumbers}
 use Rattle.credit.specs.Refusals.{badBook, shortOutput, callRows, settlementTable, refusalOf}
 use Rattle.credit.specs.Settlement.{Fits}
-
-module _ (w readings p numbers room : ℕ) where
-  pub winter-refused : noWinter w ≡ true → refusalAt 1 0 ≡ firstOf (callRows w readings p numbers room)
-  unfolding callRows
-  winter-refused e = row-stops _ _ e
-
-  module _ (r : Days) (count : ℕ) (q : r ≡ Are count) (e : daysPaper r ≡ winterDays w) where
-    pub book-refused : wrongLength count readings ≡ true → refusalAt 2 0 ≡ firstOf (callRows w readings p numbers room)
-    unfolding callRows badBook
-    book-refused f = row-goes _ _ (is-winter w count r q e) (row-stops _ _ (rw (← winter-count w count r q e) f))
-
-    module _ (b : wrongLength count readings ≡ false) where
-      right-book : badBook w readings ≡ false
-      unfolding badBook
-      right-book = rw (← winter-count w count r q e) b
-
-      pub price-refused : badPrice p ≡ true → refusalAt 3 0 ≡ firstOf (callRows w readings p numbers room)
-      unfolding callRows
-      price-refused f = row-goes _ _ (is-winter w count r q e) (row-goes _ _ right-book (row-stops _ _ f))
-
-      module _ (m : badPrice p ≡ false) where
-        pub list-refused : badList numbers ≡ true → refusalAt 4 0 ≡ firstOf (callRows w readings p numbers room)
-        unfolding callRows
-        list-refused f = row-goes _ _ (is-winter w count r q e) (row-goes _ _ right-book (row-goes _ _ m (row-stops _ _ f)))
-
-        module _ (l : badList numbers ≡ false) where
-          pub output-refused : shortOutput numbers room ≡ true → refusalAt 6 0 ≡ firstOf (callRows w readings p numbers room)
-          unfolding callRows
-          output-refused f = row-goes _ _ (is-winter w count r q e) (row-goes _ _ right-book (row-goes _ _ m (row-goes _ _ l (row-stops _ _ f))))
-
-          pub none-refused : shortOutput numbers room ≡ false → refusalAt 0 0 ≡ firstOf (callRows w readings p numbers room)
-          unfolding callRows
-          none-refused f = row-goes _ _ (is-winter w count r q e) (row-goes _ _ right-book (row-goes _ _ m (row-goes _ _ l (row-goes _ _ f rows-end))))
 
 -- what holds of a call that is not refused
 pub record RightCall (w readings p numbers room : ℕ) : Type 0 where

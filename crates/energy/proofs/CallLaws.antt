@@ -4,7 +4,7 @@
 use Prim.Native.Nat.{ℕ, zero, suc}
 use mathlib.Core.Bool.{false, not}
 use mathlib.Core.List.{List}
-use mathlib.Core.Path.{_≡_, refl, sym, ap, _∙_}
+use mathlib.Core.Path.{_≡_, refl, sym, _∙_}
 use native.Mathlib.Omega.{arith}
 use lib.ListN.{length}
 use borrow.Author.Tests.{eq-eqb, not-false}
@@ -18,8 +18,7 @@ use Rattle.calendar.specs.WinterOf.{winterOf}
 use Rattle.calendar.specs.declared.answers.Winter.{Winter}
 use Rattle.dates.specs.Winters.{days}
 use Rattle.laws.proofs.Tables.{NoneBroken, unrefused-none, none-accepted}
-use Rattle.laws.specs.Answer.{Answer}
-use Rattle.laws.specs.Table.{refusalAt, firstOf, isRefusal}
+use Rattle.laws.specs.Table.{refusalAt, firstOf}
 use Rattle.notices.proofs.HourLaws.{hours-iff}
 use Rattle.notices.specs.Profiles.{figuresOf}
 use Rattle.notices.specs.declared.notices.Notice.{Notice}
@@ -27,7 +26,7 @@ use Rattle.notices.specs.declared.profiles.Profile.the-variants.{Credit}
 use Rattle.schedule.proofs.Lawful.{Sound}
 use Rattle.energy.specs.Asked.{askedBy}
 use Rattle.energy.specs.HoursOf.{Spans}
-use Rattle.energy.specs.Line.{settled, lineOf, EventAnswer, told, eventRows, unlessRefused, eventAnswer}
+use Rattle.energy.specs.Line.{settled, lineOf, told, eventRows, unlessRefused, eventAnswer}
 use Rattle.references.specs.ReferenceDays.{freeIn}
 use Rattle.energy.specs.declared.events.Event.{Event}
 use Rattle.energy.proofs.HourLaws.{in-band}
@@ -46,7 +45,8 @@ module _ (w : Winter) (book masks : List ℕ) (n : Notice) where
   line = lineOf book (askedBy w (freeIn masks) n)
 
   -- by the table: refused by its first broken row, and else the line
-  pub call-refused : {number : ℕ} → refusalAt (suc number) 0 ≡ firstOf (eventRows w (length book) n) → told (suc number) (settled 0) ≡ eventAnswer w book masks n
+  pub call-refused : {number : ℕ} → refusalAt (suc number) 0 ≡ firstOf (eventRows w (length book) n)
+      → told (suc number) (settled 0) ≡ eventAnswer w book masks n
   unfolding eventAnswer
   call-refused e = rw (← e)
 

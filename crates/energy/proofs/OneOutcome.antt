@@ -6,8 +6,8 @@ use mathlib.Core.Path.{_≡_, refl}
 use lib.Dec.{eqb}
 use Rattle.laws.proofs.ReadBack.{read-back}
 use Rattle.energy.specs.Line.{EventAnswer, linePaper}
-use Rattle.energy.specs.declared.lines.Line.the-variants.{Is, NoWinter, BadBook, OutsidePeriod, BadHours}
-use Rattle.energy.specs.declared.lines.Line.{Line}
+use Rattle.energy.specs.declared.call.Line.the-variants.{Is, NoWinter, BadBook, OutsidePeriod, BadHours}
+use Rattle.energy.specs.declared.call.Line.{Line}
 
 lineBack : EventAnswer → Line
 lineBack a =

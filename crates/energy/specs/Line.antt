@@ -20,8 +20,8 @@ use Rattle.energy.specs.Asked.{Asked, askedBy, needed}
 use Rattle.energy.specs.Energy.{energyOf}
 use Rattle.references.specs.ReferenceDays.{freeIn}
 use Rattle.energy.specs.declared.events.Event.{Event}
-use Rattle.energy.specs.declared.lines.Line.{Line}
-use Rattle.energy.specs.declared.lines.Line.the-variants as LineCase
+use Rattle.energy.specs.declared.call.Line.{Line}
+use Rattle.energy.specs.declared.call.Line.the-variants as LineCase
 
 -- "0 settled"
 abbrev pub settled : ℕ → Event

@@ -1,4 +1,5 @@
 // What was spared: from the readings of a book to the spared energy of an event.
+mod call;
 mod events;
 mod hours;
 mod lines;
@@ -7,6 +8,6 @@ mod spared;
 mod sums;
 mod trimmed;
 
+pub use call::Line;
+pub use call::settle_event;
 pub use events::Event;
-pub use lines::Line;
-pub use lines::settle_event;

@@ -6,11 +6,10 @@ ghost use lib.ListN.{length};
 ghost use Rattle.book.specs.Part.{noPart, PartOf};
 ghost use Rattle.energy.specs.Asked.{askedBy};
 ghost use Rattle.energy.specs.HoursOf.{HoursIn, askedIn};
-ghost use Rattle.energy.specs.Line.{linePaper, lineOf, eventAnswer};
+ghost use Rattle.energy.specs.Line.{lineOf};
 ghost use Rattle.energy.specs.Parts.{partsEnergy, partsLine};
 ghost use Rattle.energy.specs.Ready.{DaysReady, PartsReady, EventReady};
 ghost use Rattle.references.specs.ReferenceDays.{freeIn};
-ghost use Rattle.references.specs.Search.{OnDay};
 use crate::events::Event;
 use crate::events::by_fault;
 use crate::hours::Hours;
@@ -20,21 +19,9 @@ use crate::needed::needed_fault;
 use crate::spared::spared;
 use crate::sums::trimmed_sum;
 use book::Fault;
-use calendar::DayKind;
-use calendar::Kind;
 use calendar::Winter;
 use notices::Notice;
-use notices::Profile;
 use references::reference_days;
-
-// What the call on one event answers: the event, or why it is refused.
-pub enum Line {
-    Is(Event),
-    NoWinter,
-    BadBook,
-    OutsidePeriod,
-    BadHours,
-}
 
 // The spared energy, from R, B, A and C.
 fn energy(
@@ -110,7 +97,7 @@ fn line_of_days(w: Winter, book: &[u32], day: u32, refs: [u32; 5], hours: Hours)
 }
 
 // The line of an event whose day is in the book and whose hours lie in a band: 20 comes before 21 and 22.
-fn line_in(w: Winter, book: &[u32], masks: &[u32; 152], n: Notice) -> Event
+pub(crate) fn line_in(w: Winter, book: &[u32], masks: &[u32; 152], n: Notice) -> Event
     requires { ⌜ EventReady w (length (now book)) n ⌝ }
     ensures { λ r. ⌜ r ≡ lineOf (now (book .entry)) (askedBy w (freeIn (now (masks .entry))) n) ⌝ }
 {
@@ -126,38 +113,4 @@ fn line_in(w: Winter, book: &[u32], masks: &[u32; 152], n: Notice) -> Event
     }
     let hours = hours_of(w, n.day, n.start, n.end);
     line_of_days(w, book, n.day, refs, hours)
-}
-
-// Settles an event whose day is a book day of that kind.
-fn settle_on(w: Winter, kind: Kind, book: &[u32], masks: &[u32; 152], n: Notice) -> Line
-    requires { ⌜ OnDay w (n .day) kind ⌝ }
-    ensures { λ r. ⌜ linePaper r ≡ eventAnswer w (now (book .entry)) (now (masks .entry)) n ⌝ }
-{
-    if book::wrong_length(w.days, book.len()) {
-        return Line::BadBook;
-    }
-    if !kind.period {
-        return Line::OutsidePeriod;
-    }
-    if notices::bad_hours(Profile::Credit.figures(), n) {
-        return Line::BadHours;
-    }
-    Line::Is(line_in(w, book, masks, n))
-}
-
-// Settles one event of a winter, by the book and the masks of all events: code, place and energy. A wrong winter, book length, day or
-// hours are refused; any masks are taken as they are.
-pub fn settle_event(w: Winter, book: &[u32], masks: &[u32; 152], n: Notice) -> Line
-    ensures { λ r. ⌜ linePaper r ≡ eventAnswer w (now (book .entry)) (now (masks .entry)) n ⌝ }
-{
-    match calendar::kind_of(w, n.day) {
-        DayKind::Is(kind) => settle_on(w, kind, book, masks, n),
-        DayKind::NoWinter => Line::NoWinter,
-        DayKind::NoDay => {
-            if book::wrong_length(w.days, book.len()) {
-                return Line::BadBook;
-            }
-            Line::OutsidePeriod
-        }
-    }
 }

@@ -10,7 +10,7 @@ use Rattle.calendar.specs.declared.answers.Known.the-variants.{Is, NoWinter}
 use Rattle.calendar.specs.declared.answers.Known.{Known}
 use Rattle.calendar.specs.declared.answers.Winter.{Winter}
 use Rattle.energy.specs.Line.{EventAnswer, linePaper}
-use Rattle.energy.specs.declared.lines.Line.the-variants as LineCase
+use Rattle.energy.specs.declared.call.Line.the-variants as LineCase
 use Rattle.laws.proofs.Refusals.{refused, kept}
 use Rattle.laws.specs.Answer.{Answer, refusal}
 use Rattle.probe.specs.Told.{ofYear, eventOfYear, partOf}

@@ -9,7 +9,7 @@ use Rattle.calendar.specs.WinterOf.{winterOf}
 use Rattle.calendar.specs.declared.answers.Winter.{Winter}
 use Rattle.dates.specs.Winters.{noWinter}
 use Rattle.energy.specs.Line.{EventAnswer, linePaper}
-use Rattle.energy.specs.declared.lines.Line.the-variants.{NoWinter}
+use Rattle.energy.specs.declared.call.Line.the-variants.{NoWinter}
 use Rattle.laws.specs.Answer.{Answer, refusal, refuse}
 
 -- the first two values, each 2 ^ 16 times as high as the next

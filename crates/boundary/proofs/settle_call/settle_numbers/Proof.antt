@@ -6,13 +6,19 @@ use Rattle.boundary.proofs.SettleLaws.{just-bounded, just-refused, just
 use Rattle.boundary.proofs.settle_call.settle_numbers.Statement.{statement}
 use Rattle.boundary.proofs.settle_call.settle_numbers.Tie as tie
 
+-- the call, from where the numbers are settled
+abbrev called : tie.After-settle → tie.Start
+called settled =
+    let lent = settled .before .before .before in
+    lent .before .before .before
+
 settle-requires : tie.Need-settle-requires
 settle-requires c κs = search needs
 
 pack-requires : tie.Need-pack-requires
 pack-requires c κs =
     let settled = c .before .before .before in
-    let start = settled .before .before .before .before .before .before in
+    let start = called settled in
     let bounded = just-bounded _ _ _ _ (start .args .lines .now) (start .args .out .now) (start .pre) _ (settled .settle .ensures .0) in
     (omega (arith, bounded .0), omega (arith, bounded .1))
 
@@ -23,7 +29,7 @@ returns : tie.Need-returns
 returns c =
     let refused = c .before in
     let settled = refused .before .before .before in
-    let start = settled .before .before .before .before .before .before in
+    let start = called settled in
     just-refused _ _ _ _ (start .args .lines .now) _ (start .pre) _ (settled .settle .ensures .0) (refused .if1 .taken) (c .pack .ensures)
 
 write-numbers-requires : tie.Need-write-numbers-requires
@@ -40,7 +46,7 @@ returns-2 c =
     let written = c .before .before in
     let accepted = written .before .before .before in
     let settled = accepted .before .before .before in
-    let start = settled .before .before .before .before .before .before in
+    let start = called settled in
     just-settled _ _ _ _ (start .args .lines .now) (start .args .out .now) (start .pre) _ (settled .settle .ensures .0) (accepted .if1 .left)
     (settled .settle .ensures .1) (settled .settle .kept .1 .1 .1 .1 .0) (written .write-numbers .ensures)
 

@@ -8,6 +8,15 @@ use Rattle.boundary.proofs.SettleLaws.{front-fits, front-is, front-coun
 use Rattle.boundary.proofs.settle_call.settle_whole.Statement.{statement}
 use Rattle.boundary.proofs.settle_call.settle_whole.Tie as tie
 
+-- the call, from where the book is read; and where the book is read, from where the list is
+abbrev called : tie.After-read-numbers → tie.Start
+called book-read =
+    let counted = book-read .before .before in
+    counted .before .before .before .before
+
+abbrev book-read-at : tie.After-read-numbers2 → tie.After-read-numbers
+book-read-at list-read = list-read .before .before .before
+
 count-in-requires : tie.Need-count-in-requires
 count-in-requires c κs = search needs
 
@@ -35,25 +44,25 @@ read-numbers-requires-2 c κs = search needs
 array-share-prefix-readings : tie.Need-array-share-prefix-readings
 array-share-prefix-readings c =
     let book-read = c .before .before .before .before in
-    let start = book-read .before .before .before .before .before .before in
+    let start = called book-read in
     front-fits (start .args .book .now) _ _ (omega arith) (book-read .read-numbers .ensures)
 
 slice-aggregate-settle-numbers : tie.Need-slice-aggregate-settle-numbers
 slice-aggregate-settle-numbers c =
     let book-read = c .before .before .before .before .before in
-    let start = book-read .before .before .before .before .before .before in
+    let start = called book-read in
     front-count (start .args .book .now) _ _ (omega arith) (book-read .read-numbers .ensures)
 
 array-share-prefix-numbers : tie.Need-array-share-prefix-numbers
 array-share-prefix-numbers c =
     let list-read = c .before .before in
-    let start = list-read .before .before .before .before .before .before .before .before .before in
+    let start = called (book-read-at list-read) in
     front-fits (start .args .list .now) _ _ (omega arith) (list-read .read-numbers2 .ensures)
 
 slice-aggregate-settle-numbers-2 : tie.Need-slice-aggregate-settle-numbers-2
 slice-aggregate-settle-numbers-2 c =
     let list-read = c .before .before .before in
-    let start = list-read .before .before .before .before .before .before .before .before .before in
+    let start = called (book-read-at list-read) in
     front-count (start .args .list .now) _ _ (omega arith) (list-read .read-numbers2 .ensures)
 
 array-borrow-prefix-lines : tie.Need-array-borrow-prefix-lines
@@ -77,9 +86,10 @@ same-length c = search needs
 returns : tie.Need-returns
 returns c =
     let settled = c .before .before .before in
-    let list-read = settled .before .before .before .before .before .before in
-    let book-read = list-read .before .before .before in
-    let start = book-read .before .before .before .before .before .before in
+    let shared = settled .before .before .before in
+    let list-read = shared .before .before .before in
+    let book-read = book-read-at list-read in
+    let start = called book-read in
     let book-is = front-is (start .args .book .now) _ _ (omega arith) (book-read .read-numbers .ensures) in
     let list-is = front-is (start .args .list .now) _ _ (omega arith) (list-read .read-numbers2 .ensures) in
     rw (← book-is, ← list-is) (settled .settle-numbers .ensures)

@@ -8,7 +8,8 @@ use lib.ListN.{length}
 use Rattle.calendar.proofs.OneOutcome.{no-winter-known, winter-known}
 use Rattle.dates.proofs.Promise.{winter-range}
 use Rattle.credit.proofs.RefusalLaws.{refusal-notices, call-is-right, right-fits}
-use Rattle.credit.proofs.SettlementLaws.{call-refused, call-unwritten, settled-in, written-in}
+use Rattle.credit.proofs.SettlementLaws.{call-refused, call-unwritten}
+use Rattle.credit.proofs.WayLaws.{settled-in, written-in}
 use Rattle.credit.proofs.call.settle.Statement.{statement}
 use Rattle.credit.proofs.call.settle.Tie as tie
 

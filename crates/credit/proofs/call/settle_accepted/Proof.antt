@@ -1,7 +1,7 @@
 -- `settle_accepted` puts the lines by the masks of the list, and the totals are theirs.
 -- Assumes nothing.
 use borrow.Author.Needs.{needs}
-use Rattle.credit.proofs.SettlementLaws.{totals-are, lines-are}
+use Rattle.credit.proofs.WayLaws.{totals-are, lines-are}
 use Rattle.credit.proofs.call.settle_accepted.Statement.{statement}
 use Rattle.credit.proofs.call.settle_accepted.Tie as tie
 

@@ -2,7 +2,7 @@
 -- Assumes nothing.
 use borrow.Author.Needs.{needs}
 use mathlib.Core.Path.{_∙_}
-use Rattle.credit.proofs.SettlementLaws.{by-refused, by-unwritten, by-settled, by-written}
+use Rattle.credit.proofs.WayLaws.{by-refused, by-unwritten, by-settled, by-written}
 use Rattle.credit.proofs.call.settle_in.Statement.{statement}
 use Rattle.credit.proofs.call.settle_in.Tie as tie
 

@@ -3,7 +3,7 @@
 use borrow.Author.Needs.{needs}
 use Rattle.dates.proofs.Promise.{no-winter}
 use Rattle.laws.proofs.Guards.{found}
-use Rattle.credit.proofs.RefusalLaws.{winter-refused, book-refused, price-refused, list-refused, output-refused, none-refused}
+use Rattle.credit.proofs.CallGuards.{winter-refused, book-refused, price-refused, list-refused, output-refused, none-refused}
 use Rattle.credit.proofs.refusals.call_refusal.Statement.{statement}
 use Rattle.credit.proofs.refusals.call_refusal.Tie as tie
 

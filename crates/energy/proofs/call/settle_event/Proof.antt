@@ -8,8 +8,8 @@ use Rattle.energy.specs.Line.{eventRows}
 use Rattle.energy.proofs.CallLaws.{call-refused}
 use Rattle.references.proofs.KindLaws.{told-day, told-past}
 use borrow.Author.Needs.{needs}
-use Rattle.energy.proofs.lines.settle_event.Statement.{statement}
-use Rattle.energy.proofs.lines.settle_event.Tie as tie
+use Rattle.energy.proofs.call.settle_event.Statement.{statement}
+use Rattle.energy.proofs.call.settle_event.Tie as tie
 
 kind-of-requires : tie.Need-kind-of-requires
 kind-of-requires c κs = search needs

@@ -8,8 +8,8 @@ use Rattle.energy.specs.Line.{eventRows}
 use Rattle.energy.proofs.CallLaws.{call-refused, call-settled}
 use Rattle.energy.proofs.HourLaws.{in-band}
 use borrow.Author.Needs.{needs}
-use Rattle.energy.proofs.lines.settle_on.Statement.{statement}
-use Rattle.energy.proofs.lines.settle_on.Tie as tie
+use Rattle.energy.proofs.call.settle_on.Statement.{statement}
+use Rattle.energy.proofs.call.settle_on.Tie as tie
 
 wrong-length-requires : tie.Need-wrong-length-requires
 wrong-length-requires c κs = search needs
