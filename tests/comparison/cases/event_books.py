@@ -123,7 +123,7 @@ def drawn_query(source, winter=None, day=None, hours=None):
 
 
 def references(query):
-    return energies.reference_days(query.winter, query.numbers, query.day)
+    return energies.reference_days(query.winter, energies.marked_days(query.numbers), query.day)
 
 
 def needed(query):

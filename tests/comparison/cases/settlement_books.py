@@ -8,7 +8,7 @@ import struct
 from typing import NamedTuple
 
 from cases.event_books import FAULTS, SOUND_BOOKS, readings_of
-from cases.notice_lists import flat, open_days, room
+from cases.notice_lists import open_days, room
 from second import energies, winters
 from second.energies import HIGHEST_READING, MISSING, place_of
 from second.notices import Notice
@@ -34,7 +34,7 @@ def packed(numbers):
 
 
 def book_length(winter):
-    """"A book is 24N numbers"."""
+    """How many numbers a winter's book has."""
     return energies.HOURS * len(winters.book_dates(winter))
 
 
@@ -114,7 +114,7 @@ def book_of_sums(source, winter, notice, sums):
     """The book for a list of this one notice in which R, B, A and C are these sums. No other
     reading is there."""
     event = Notice(*notice)
-    references = energies.reference_days(winter, notice, event.day)
+    references = energies.reference_days(winter, {event.day}, event.day)
     book = even_book(winter, MISSING)
     for pair, reading in readings_of(source, event, references, sums).items():
         book[place_of(*pair)] = reading
@@ -124,7 +124,8 @@ def book_of_sums(source, winter, notice, sums):
 def needed_places(winter, listed, notice):
     """Where the book has a notice's needed readings, in document 01's order."""
     day, *_ = notice
-    references = energies.reference_days(winter, flat(listed), day)
+    with_events = {on for on, _, _ in listed}
+    references = energies.reference_days(winter, with_events, day)
     return [place_of(*pair) for pair in energies.needed_hours(Notice(*notice), references)]
 
 

@@ -20,7 +20,7 @@ def whole_day_out(query, hour):
 
 def event_hours_out(query, hour):
     """Wrong: of a day that carries an event only the event's hours are out."""
-    taken = energies.event_hours(query.numbers)
+    taken = energies.marked_hours(query.numbers)
     days = energies.days_of_kind(query.winter, query.day)
     return [day for day in days if hour not in taken.get(day, ())][:REFERENCE_DAYS]
 

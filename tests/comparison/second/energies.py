@@ -2,7 +2,8 @@
 
 The needed readings are a dictionary by (day, hour), an hour's usual reading is the average
 of the three in the middle of a sorted list, and energies are fractions of a Wh. Only what
-is printed is turned into eighteenths. Sentences in quotation marks are document 01's.
+is printed is turned into eighteenths. Where document 01 leaves something open, a comment
+names the entry of docs/DECISIONS.md that settles it.
 """
 
 from collections import defaultdict
@@ -14,9 +15,8 @@ from second import notices, winters
 from second.notices import PROFILES, Notice
 
 HOURS = winters.HOURS
-MASKED_DAYS = 152
+LONGEST_WINTER = 152
 
-# "A reading is 0 to 10,000,000 Wh. 4294967295 marks a missing one."
 HIGHEST_READING = 10_000_000
 MISSING = 4294967295
 
@@ -24,8 +24,7 @@ REFERENCE_DAYS = 5
 LIMIT_WH = 40_000
 EIGHTEENTHS = 18
 
-# How long before its start an event's warm-up hours are: "for a morning event s-5, s-4, s-3
-# (W = 3); for an evening event s-4, s-3 (W = 2)".
+# How long before its start an event's warm-up hours are, by the band that it is in.
 MORNING, EVENING = PROFILES[1].bands
 WARM_UP = {MORNING: (5, 4, 3), EVENING: (4, 3)}
 
@@ -33,8 +32,9 @@ LONGEST_BOOK = 3672
 
 
 class Query(NamedTuple):
-    """A call that settles one event, with the list and the book lent to it. The book has
-    `length` numbers drawn from the seed, and the changes, pairs (index, value), over them."""
+    """A call that settles one event, with the list and the book lent to it. Document 01 has no
+    such call, and this one takes any list. The book has `length` numbers drawn from the seed,
+    and the changes, pairs (index, value), over them."""
     winter: int
     numbers: tuple
     length: int
@@ -63,7 +63,7 @@ class Spared(NamedTuple):
         return self.trial > LIMIT_WH
 
     def energy(self):
-        """"Or 0 if that is negative"."""
+        """What was spared is never below 0."""
         return max(self.unfloored, Fraction(0))
 
 
@@ -100,8 +100,8 @@ def drawn(query, index):
 
 
 def place_of(day, hour):
-    """"24 times day plus hour", which is also where the book has the reading: "a book is
-    24N numbers of 32 bits, day by day"."""
+    """The place of an hour, which is also where the book has its reading: a book goes from day
+    to day, and a day from hour to hour."""
     return HOURS * day + hour
 
 
@@ -116,17 +116,30 @@ def readings_at(query, hours):
 # The hours of an event and its reference days.
 
 
+def days_with_events(listed):
+    """The days on which an accepted list has an event, whatever its hours."""
+    return frozenset(notice.day for notice in listed)
+
+
 @lru_cache(maxsize=1)
-def event_hours(numbers):
-    """The event hours of a list, as a set for each day. The list is taken as it is: a
-    notice marks nothing where there is no such day, where it ends behind the day or where
-    it has no hours, and numbers over from whole triples are passed over."""
+def marked_hours(numbers):
+    """The hours that any list marks, as a set for each day. Of lists that are not accepted
+    document 01 says nothing. That a notice marks nothing where it names no hours of a day that
+    a book can have, and that numbers over from whole triples are passed over, is a choice of
+    ours: "Lists that were not accepted"."""
     hours = defaultdict(set)
     for triple in zip(numbers[0::3], numbers[1::3], numbers[2::3]):
         notice = Notice(*triple)
-        if notice.day < MASKED_DAYS and notice.end <= HOURS:
+        if notice.day < LONGEST_WINTER and notice.end <= HOURS:
             hours[notice.day] |= set(notice.hours())
     return hours
+
+
+@lru_cache(maxsize=1)
+def marked_days(numbers):
+    """The days on which any list marks an hour. That such a day carries an event is a choice
+    of ours: "Any masks"."""
+    return frozenset(day for day, hours in marked_hours(numbers).items() if hours)
 
 
 def warm_up_hours(event):
@@ -135,8 +148,8 @@ def warm_up_hours(event):
 
 @cache
 def days_of_kind(winter, day):
-    """All days before the event day, the nearest first, "that are of its kind (weekday or
-    weekend) .. and are not excluded"."""
+    """All days before the event day, the nearest first, that are of a weekend as it is, or are
+    not as it is not, and are not excluded."""
     kinds = notices.day_kinds(winter)
     return [
         before
@@ -145,21 +158,20 @@ def days_of_kind(winter, day):
     ]
 
 
-def serving_days(winter, numbers, day):
-    """Those of them that "carry no event at any hour"."""
-    hours = event_hours(numbers)
-    return [before for before in days_of_kind(winter, day) if not hours.get(before)]
+def serving_days(winter, with_events, day):
+    """Those of them that are no day with an event."""
+    return [before for before in days_of_kind(winter, day) if before not in with_events]
 
 
-def reference_days(winter, numbers, day):
-    """"The five nearest" of them, or all if there are fewer."""
-    return serving_days(winter, numbers, day)[:REFERENCE_DAYS]
+def reference_days(winter, with_events, day):
+    """The nearest of them, as many as are asked for, or all if there are fewer."""
+    return serving_days(winter, with_events, day)[:REFERENCE_DAYS]
 
 
 def needed_hours(event, references):
-    """The hours of the needed readings, as pairs (day, hour) in this order: "event day, its
-    warm-up hours and then its event hours, ascending; then the reference days, nearest
-    first, each the same way"."""
+    """The hours of the needed readings, as pairs (day, hour) in their order: on the event day
+    the warm-up before the event, each from its first hour on, and so on each reference day,
+    back from the nearest."""
     hours = sorted(warm_up_hours(event)) + sorted(event.hours())
     return [(day, hour) for day in (event.day, *references) for hour in hours]
 
@@ -173,8 +185,8 @@ def average(values):
 
 
 def usual(readings, references, hour):
-    """An hour's usual reading: of "its five reference readings less one smallest and less
-    one largest", whose sum is T, the average."""
+    """An hour's usual reading, a third of T: of the reference readings one at each end is left
+    out, and the average of the others taken."""
     _, *middle, _ = sorted(readings[day, hour] for day in references)
     return average(middle)
 
@@ -193,14 +205,14 @@ def spared_energy(event, references, readings):
     excess = own_warm_up - usual_warm_up
     most = 2 * usual_warm_up
     trial = adjusted(excess)
-    # "If the trial is above 720,000 (40 kWh), the smaller of 3A - B and 2B stands in place
-    # of 3A - B; otherwise 3A - B stays."
+    # The trial is always by the whole excess, and decides whether less of it stands. 3A - B is
+    # 3W times the excess, and 2B is 3W times the most.
     unfloored = adjusted(min(excess, most)) if trial > LIMIT_WH else trial
     return Spared(trial, excess, most, unfloored)
 
 
 def eighteenths(energy):
-    """"Energies are whole numbers of eighteenths of a Wh."""
+    """An energy as it is told, which never has a fraction of an eighteenth."""
     parts = energy * EIGHTEENTHS
     assert parts.denominator == 1, energy
     return parts.numerator
@@ -210,7 +222,8 @@ def eighteenths(energy):
 
 
 def refusal(query):
-    """The number of the first rule that the call breaks, 0 if it breaks none."""
+    """The number of the first rule that the call breaks, 0 if it breaks none. Which rules it
+    has, and in which order, is a choice of ours: "One event, refused"."""
     if query.winter not in winters.WINTERS:
         return 1
     if query.length != HOURS * len(winters.book_dates(query.winter)):
@@ -223,15 +236,15 @@ def refusal(query):
 
 
 def fault(reading):
-    """"21 a needed reading missing; 22 a needed reading above 10,000,000"; 0 if neither."""
+    """The code that a needed reading asks for, 0 if it is a reading."""
     if reading == MISSING:
         return 21
     return 22 if reading > HIGHEST_READING else 0
 
 
 def event_answer(event, references, readings_of):
-    """The answer to an event; `readings_of` gives the readings at pairs (day, hour). "20
-    comes before 21 and 22", and of these "the first fault decides"."""
+    """The answer to an event; `readings_of` gives the readings at pairs (day, hour), which are
+    looked at only where there are enough reference days. The first fault among them decides."""
     if len(references) < REFERENCE_DAYS:
         return Answer(0, code=20)
     readings = readings_of(needed_hours(event, references))
@@ -247,12 +260,12 @@ def answer(query):
     if number:
         return Answer(number)
     event = query.event()
-    references = reference_days(query.winter, query.numbers, event.day)
+    references = reference_days(query.winter, marked_days(query.numbers), event.day)
     return event_answer(event, references, partial(readings_at, query))
 
 
 def energy_of(given):
-    """The energy of an event's line; "an unsettled line has energy 0"."""
+    """The energy of an event's line, 0 if it is unsettled."""
     return eighteenths(given.spared.energy()) if given.spared else 0
 
 

@@ -1,7 +1,7 @@
 """The second program's list check: document 01's notices, told by sets of hours.
 
 A band is a set of hours, the event hours of a list are a set of pairs (day, hour), and a
-rule is a refusal number with a test. Sentences in quotation marks are document 01's.
+rule is a refusal number with a test.
 """
 
 from dataclasses import dataclass, field
@@ -48,8 +48,8 @@ class DayKinds(NamedTuple):
 
 @cache
 def day_kinds(winter):
-    """The days of the winter period ("days 30 to N-1", so from 1 December on), those of
-    weekends and the excluded ones."""
+    """The days of the winter period, from 1 December to the book's end, those of weekends and
+    the excluded ones."""
     days = list(enumerate(winters.book_dates(winter)))
     return DayKinds(
         period={day for day, on in days if on >= date(winter, 12, 1)},
@@ -59,14 +59,14 @@ def day_kinds(winter):
 
 
 class Notice(NamedTuple):
-    """A notice "is three numbers: day, first hour s, end e"."""
+    """A notice: a day, its first hour, and the hour at which it ends."""
     day: int
     first: int
     end: int
 
     def hours(self):
-        """"Its hours are s to e-1". A range and no set, because the end may be any number
-        of 32 bits."""
+        """Its hours; the end is none of them. A range and no set, because the end may be any
+        number of 32 bits."""
         return range(self.first, self.end)
 
 
@@ -107,18 +107,19 @@ def moment(winter, day, hour):
 
 
 def wrong_winter(winter, profile, numbers):
-    """"Y outside 2010..2098"."""
+    """There is no such winter."""
     return winter not in winters.WINTERS
 
 
 def wrong_profile(winter, profile, numbers):
-    """"Profile neither 1 nor 2 (list check only)"."""
+    """There is no such profile."""
     return profile not in PROFILES
 
 
 def wrong_length(winter, profile, numbers):
-    """"List not whole triples, or more than 100"."""
-    return len(numbers) % 3 != 0 or len(numbers) // 3 > MOST_NOTICES
+    """The numbers are no whole notices, or those of too many. `numbers` is None for bytes that
+    are no whole numbers."""
+    return numbers is None or len(numbers) % 3 != 0 or len(numbers) // 3 > MOST_NOTICES
 
 
 # The rules for a notice. Each test may count on the ones before it: a day that is looked
@@ -126,33 +127,32 @@ def wrong_length(winter, profile, numbers):
 
 
 def outside_winter_period(standing, notice):
-    """"Day outside the winter period"."""
+    """The winter period has no such day."""
     return notice.day not in day_kinds(standing.winter).period
 
 
 def on_excluded_day(standing, notice):
-    """"Excluded day"."""
+    """No peak is on this day."""
     return notice.day in day_kinds(standing.winter).excluded
 
 
 def on_barred_weekend(standing, notice):
-    """"Weekend under profile 2", the profile without weekends."""
+    """The profile has no weekends, and the day is of one."""
     return not standing.profile.weekends and notice.day in day_kinds(standing.winter).weekend
 
 
 def not_in_one_band(standing, notice):
-    """"Hours empty, reversed or not inside one band"."""
+    """There are no hours, or no band has them all."""
     return band_of(standing.profile, notice) is None
 
 
 def of_wrong_length(standing, notice):
-    """"Length not allowed"."""
+    """The profile has no events of so many hours."""
     return len(notice.hours()) not in standing.profile.lengths
 
 
 def starts_too_early(standing, notice):
-    """"Starts before the notice before it ends (earlier day, or same day and s below its
-    e)"."""
+    """The notice before it has not ended when this one begins."""
     if not standing.notices:
         return False
     before = standing.notices[-1]
@@ -161,7 +161,7 @@ def starts_too_early(standing, notice):
 
 
 def in_same_band(standing, notice):
-    """"Same day and band as the notice before it"."""
+    """It shares the day and the band of the notice before it."""
     if not standing.notices:
         return False
     before = standing.notices[-1]
@@ -170,18 +170,18 @@ def in_same_band(standing, notice):
 
 
 def over_winter_limit(standing, notice):
-    """"Total hours pass the winter's limit with this notice"."""
+    """With its hours there are more than a winter may have."""
     return len(standing.hours | day_hours(notice)) > standing.profile.winter_hours
 
 
-# "Order: list check 1, 5, 4, then the notices".
+# What comes first decides.
 CALL_RULES = (
     (1, wrong_winter),
     (5, wrong_profile),
     (4, wrong_length),
 )
 
-# "Numbers 10 to 18 are tried in that order for the first notice, then the next".
+# All of them for one notice after the other.
 NOTICE_RULES = (
     (10, outside_winter_period),
     (11, on_excluded_day),
@@ -195,8 +195,8 @@ NOTICE_RULES = (
 
 
 def list_check(winter, profile, numbers):
-    """The refusal number and the place, which is "the notice's index from 0"; and what
-    stands, if the list is accepted: "an accepted call's number and place are 0"."""
+    """The refusal number and the place, which counts the notices before the refused one; and
+    what stands, if the list is accepted."""
     for number, broken in CALL_RULES:
         if broken(winter, profile, numbers):
             return number, 0, None
@@ -211,7 +211,7 @@ def list_check(winter, profile, numbers):
 
 
 def masks(hours):
-    """Day by day "24 bits, bit h for hour h", for the days that have event hours."""
+    """For each day that has event hours a number of 24 bits, of which an hour sets its own."""
     days = sorted({day for day, _ in hours})
     return {day: sum(2**hour for on, hour in hours if on == day) for day in days}
 

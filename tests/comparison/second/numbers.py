@@ -11,7 +11,9 @@ LIST_CHECK = {
     "neither": (1, 5),
 }
 
-# Of one event by itself, with a list and a book that nothing has looked at before.
+# Of one event by itself, with a list and a book that nothing has looked at before. Document
+# 01 has no such call: which numbers it can give is a choice of ours, "One event, refused" in
+# docs/DECISIONS.md.
 EVENT = {"refusal": (1, 2, 10, 13), "code": (0, 20, 21, 22)}
 
 # Its own rules, and those of the list check under profile 1. November always has five days

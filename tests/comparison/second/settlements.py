@@ -2,7 +2,6 @@
 
 What a line is worth is a fraction of a cent, and a rounding is a whole number by the floor
 of a fraction. At the boundary the lent slices are bytes and the answer is one number.
-Sentences in quotation marks are document 01's.
 """
 
 import struct
@@ -13,24 +12,21 @@ from typing import NamedTuple
 
 from second import energies, notices, winters
 
-# "Price p is in thousandths of a cent per kWh".
+# A price counts thousandths of a cent, and is that of a kWh.
 PRICES = range(1, 1_000_001)
 THOUSANDTHS_OF_A_CENT = 1_000
 WH_OF_A_KWH = 1_000
 
-# "Each notice fills four 64-bit numbers of the output".
+# The output's numbers for a notice.
 LINE_NUMBERS = 4
 
 # Bytes of a number lent to a call, and of a number of the lent output.
 LENT_BYTES = 4
 OUTPUT_BYTES = 8
 
-# "Bytes over from whole numbers are a wrong length": one number is no book and no list.
-WRONG_LENGTH = (0,)
-
 
 class Line(NamedTuple):
-    """The four numbers of a notice: "code, place, energy, cents"."""
+    """The four numbers of a notice, in their order."""
     code: int
     place: int
     energy: int
@@ -38,7 +34,8 @@ class Line(NamedTuple):
 
 
 class Call(NamedTuple):
-    """A settlement asked for. The room is how many numbers the lent output has."""
+    """A settlement asked for. Book and numbers are None where bytes were lent that are no whole
+    numbers. The room is how many numbers the lent output has."""
     winter: int
     book: tuple
     price: int
@@ -47,7 +44,7 @@ class Call(NamedTuple):
 
 
 class Settlement(NamedTuple):
-    """The answer to a call; "totals beside a refusal are 0"."""
+    """The answer to a call, without lines and totals where it is refused."""
     number: int
     place: int
     lines: tuple = ()
@@ -60,31 +57,32 @@ class Settlement(NamedTuple):
 
 
 def wrong_winter(call):
-    """"Y outside 2010..2098"."""
+    """There is no such winter."""
     return call.winter not in winters.WINTERS
 
 
 def wrong_book(call):
-    """"Book length is not 24N"."""
-    return len(call.book) != energies.HOURS * len(winters.book_dates(call.winter))
+    """The book is no whole numbers, or not one number for each hour of the winter's days."""
+    hours = energies.HOURS * len(winters.book_dates(call.winter))
+    return call.book is None or len(call.book) != hours
 
 
 def wrong_price(call):
-    """"Price outside 1..1,000,000"."""
+    """There is no such price."""
     return call.price not in PRICES
 
 
 def wrong_list(call):
-    """"List not whole triples, or more than 100"."""
+    """The list check's rule for the length."""
     return notices.wrong_length(call.winter, 1, call.numbers)
 
 
 def short_output(call):
-    """"Output has fewer than 4 numbers a notice"."""
+    """Some line has no room."""
     return call.room < LINE_NUMBERS * (len(call.numbers) // 3)
 
 
-# "Settlement 1, 2, 3, 4, 6, then the notices under profile 1".
+# What comes first decides; the notices are looked at behind these.
 CALL_RULES = (
     (1, wrong_winter),
     (2, wrong_book),
@@ -104,13 +102,13 @@ def worth(energy, price):
 
 
 def rounded(cents):
-    """"To the nearest cent, halves up"."""
+    """Whole cents, the nearest; of two as near the higher."""
     return floor(cents + Fraction(1, 2))
 
 
 def line_cents(amounts, price):
-    """The cents of lines with these energies: "the worth of all lines up to it, rounded,
-    less the worth of all lines before it, rounded"."""
+    """The cents of lines with these energies: by how much each makes the rounded worth of all
+    so far grow."""
     cents = []
     energy = before = 0
     for amount in amounts:
@@ -129,18 +127,19 @@ def readings_in(book, hours):
     return {pair: book[energies.place_of(*pair)] for pair in hours}
 
 
-def event_answers(call, listed):
+def event_answers(winter, book, listed):
     """What the energy's rules say of each notice of an accepted list."""
+    with_events = energies.days_with_events(listed)
     for notice in listed:
-        references = energies.reference_days(call.winter, call.numbers, notice.day)
-        yield energies.event_answer(notice, references, partial(readings_in, call.book))
+        references = energies.reference_days(winter, with_events, notice.day)
+        yield energies.event_answer(notice, references, partial(readings_in, book))
 
 
-def settled(call, listed):
+def settled(winter, book, price, listed):
     """The settlement of an accepted list."""
-    answers = list(event_answers(call, listed))
+    answers = list(event_answers(winter, book, listed))
     amounts = [energies.energy_of(answer) for answer in answers]
-    cents = line_cents(amounts, call.price)
+    cents = line_cents(amounts, price)
     lines = tuple(
         Line(answer.code, answer.place, *both) for answer, *both in zip(answers, amounts, cents)
     )
@@ -155,17 +154,18 @@ def settlement(call):
     number, place, standing = notices.list_check(call.winter, 1, call.numbers)
     if number:
         return Settlement(number, place)
-    return settled(call, standing.notices)
+    return settled(call.winter, call.book, call.price, standing.notices)
 
 
-# The boundary: "the slices are bytes, numbers little-endian".
+# The boundary.
 
 
 @lru_cache(maxsize=8)
 def lent_numbers(lent):
-    """The numbers of a lent book or list."""
+    """The numbers of a lent book or list, None where some bytes make no whole number: whatever
+    the others are, that is a wrong length."""
     if len(lent) % LENT_BYTES:
-        return WRONG_LENGTH
+        return None
     return struct.unpack(f"<{len(lent) // LENT_BYTES}I", lent)
 
 
@@ -175,7 +175,7 @@ def written(lines):
 
 
 def one_number(number, place):
-    """"65,536 times the refusal number plus the place, 0 if none"."""
+    """The one number that C gets."""
     return 65_536 * number + place
 
 
@@ -187,8 +187,7 @@ def check_call(winter, profile, listed):
 
 def settle_call(winter, book, price, listed, output):
     """The settlement from C: its answer to a book and a list of bytes, and the bytes of the
-    lent output after the call. "Numbers past the last line are untouched", and bytes over
-    from whole numbers "in the output stay untouched"."""
+    lent output after the call. Behind the last line all stays, whole numbers or not."""
     room = len(output) // OUTPUT_BYTES
     call = Call(winter, lent_numbers(book), price, lent_numbers(listed), room)
     given = settlement(call)

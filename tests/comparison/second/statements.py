@@ -2,7 +2,7 @@
 
 A text is split at every byte 10, a line is numbers if its pattern fits it as a whole, and
 the settlement is the second program's own. A refusal is an exception that carries its
-number and place. Sentences in quotation marks are document 01's.
+number and place.
 
     cd tests/comparison && python3 -m second.statements < text
 
@@ -13,13 +13,14 @@ import re
 import sys
 from typing import NamedTuple
 
-from second import energies, settlements, winters
+from second import energies, notices, settlements, winters
 from second.energies import HOURS, MISSING
+from second.notices import MOST_NOTICES
 
 LONGEST_TEXT = 65_536
 
-# "Numbers are decimal without sign, blanks or leading zeros, at most 4294967294". A number
-# of more than ten digits is above that, so it need not be worked out.
+# The mark of a missing reading cannot be written. A number of more than ten digits is larger
+# still, so it need not be worked out.
 LARGEST_NUMBER = 4_294_967_294
 NUMBER = rb"(?:0|[1-9][0-9]{0,9})"
 
@@ -41,7 +42,7 @@ class Read(NamedTuple):
     values: list
 
     def places(self):
-        """Where the book has its values, which are "for successive hours"."""
+        """Where the book has its values, one behind the other."""
         start = energies.place_of(self.day, self.hour)
         return range(start, start + len(self.values))
 
@@ -68,7 +69,7 @@ PRICE = pattern(b"price", 1, 1)
 EVENTS = pattern(b"events", 1, 1)
 EVENT = pattern(b"event", 3, 3)
 READS = pattern(b"reads", 1, 1)
-# Day and hour, "with 1 to 24 values".
+# Day and hour, and the values of a day's hours at most.
 READ = pattern(b"read", 2 + 1, 2 + 24)
 
 
@@ -80,16 +81,16 @@ def numbers_of(form, line):
 
 
 class Lines:
-    """The lines of a text, taken one after the other. "Lines end in byte 10", so what stands
-    behind the last byte 10 is unfinished."""
+    """The lines of a text, taken one after the other. What stands behind the last byte 10 is an
+    unfinished one."""
 
     def __init__(self, text):
         *self.finished, self.unfinished = text.split(b"\n")
         self.taken = 0
 
     def take(self, form):
-        """The numbers of the next line. "A text that stops early is refused at its first
-        missing or unfinished line", and any other at the first line without its form."""
+        """The numbers of the next line. It is refused where it is not there, has no end, or does
+        not have its form."""
         left = self.finished[self.taken:self.taken + 1]
         numbers = numbers_of(form, left[0]) if left else []
         if not numbers:
@@ -103,7 +104,8 @@ class Lines:
         return number
 
     def end(self):
-        """"Nothing follows"."""
+        """Behind the last line there is not a byte. That what is there counts as one line more,
+        finished or not, is a choice of ours: "Counts that do not fit" in docs/DECISIONS.md."""
         if self.finished[self.taken:] or self.unfinished:
             raise Refused(30, self.taken + 1)
 
@@ -120,18 +122,18 @@ def said(text):
     winter = lines.take_one(WINTER)
     price = lines.take_one(PRICE)
     # A text may name far more lines than it has: the first one that is missing ends this.
-    notices = [lines.take(EVENT) for _ in range(lines.take_one(EVENTS))]
+    listed = [lines.take(EVENT) for _ in range(lines.take_one(EVENTS))]
     reads = [taken_read(lines) for _ in range(lines.take_one(READS))]
     lines.end()
-    return Text(winter, price, notices, reads)
+    return Text(winter, price, listed, reads)
 
 
 # The book.
 
 
 def check_reads(winter, reads):
-    """31: "a read line not after the one before, or outside the book or day". "Each read
-    line starts at or after the end of the one before"."""
+    """31, at the first read line that the book or its day cannot hold, or that begins before
+    the one above it has ended."""
     days = range(len(winters.book_dates(winter)))
     end_before = 0
     for read in reads:
@@ -143,7 +145,7 @@ def check_reads(winter, reads):
 
 
 def book_of(winter, reads):
-    """The book: "unlisted hours are missing"."""
+    """The book, in which an hour without a value is missing."""
     listed = {place: value for read in reads for place, value in zip(read.places(), read.values)}
     length = HOURS * len(winters.book_dates(winter))
     return tuple(listed.get(place, MISSING) for place in range(length))
@@ -153,25 +155,24 @@ def book_of(winter, reads):
 
 
 def settled(told):
-    """The settlement that a text asks for. Its rules come in the text's order, "1, 31, 3, 4,
-    then the notices": 31 is asked as soon as the winter is one."""
+    """The settlement that a text asks for, by the rules of a text in their own order."""
     if told.winter not in winters.WINTERS:
         raise Refused(1)
     check_reads(told.winter, told.reads)
+    if told.price not in settlements.PRICES:
+        raise Refused(3)
+    if len(told.notices) > MOST_NOTICES:
+        raise Refused(4)
     numbers = tuple(number for notice in told.notices for number in notice)
-    room = settlements.LINE_NUMBERS * len(told.notices)
+    number, place, standing = notices.list_check(told.winter, 1, numbers)
+    if number:
+        raise Refused(number, place)
     book = book_of(told.winter, told.reads)
-    given = settlements.settlement(
-        settlements.Call(told.winter, book, told.price, numbers, room)
-    )
-    if given.number:
-        raise Refused(given.number, given.place)
-    return given
+    return settlements.settled(told.winter, book, told.price, standing.notices)
 
 
 def printed(told, given):
-    """The lines of a statement: "winter, price and number of notices as read, one `line=` for
-    each notice, then total energy and total cents"."""
+    """The lines of a statement."""
     yield f"winter={told.winter}"
     yield f"price={told.price}"
     yield f"events={len(told.notices)}"

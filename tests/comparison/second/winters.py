@@ -2,7 +2,8 @@
 
 A winter's book is the list of its dates, a day is a place in that list, and
 weekdays are those of `datetime`. Each call gives a pair: the refusal number
-(0 if none) and the values. Sentences in quotation marks are document 01's.
+(0 if none) and the values. Where document 01 leaves something open, a comment
+names the entry of docs/DECISIONS.md that settles it.
 """
 
 from datetime import date, timedelta
@@ -32,7 +33,7 @@ LONGEST_BOOK = 3648
 
 @cache
 def book_dates(winter):
-    """The dates of a book: it "runs from 1 November Y (day 0) to 31 March Y+1"."""
+    """The dates of a book, the first and the last of November to March among them."""
     first = date(winter, 11, 1)
     last = date(winter + 1, 3, 31)
     return [first + timedelta(day) for day in range((last - first).days + 1)]
@@ -49,8 +50,8 @@ def easter_sunday(year):
 
 @cache
 def excluded_dates(winter):
-    """The six fixed days, "24, 25, 26, 31 December, 1 and 2 January", and "Good Friday
-    and Easter Monday where they are at or before 31 March", so where the book has them."""
+    """Christmas Eve and the two days behind it, New Year's Eve and the two days behind it, Good
+    Friday and Easter Monday: those of the eight that the book has."""
     easter_day = easter_sunday(winter + 1)
     dates = {
         date(winter, 12, 24),
@@ -71,14 +72,14 @@ def is_weekend(on):
 
 
 def days(winter):
-    """A winter's "N days: 152 if Y+1 is a leap year (Gregorian), else 151"."""
+    """N, the days of a winter's book: as many as there are dates in it."""
     if winter not in WINTERS:
         return WRONG_WINTER, ()
     return 0, (len(book_dates(winter)),)
 
 
 def easter(year):
-    """Month and day of "Easter Sunday of year y"; 1 for "a year outside 2011..2099"."""
+    """Month and day of a year's Easter Sunday; 1 where no winter ends in that year."""
     if year not in EASTER_YEARS:
         return WRONG_WINTER, ()
     on = easter_sunday(year)
@@ -86,8 +87,8 @@ def easter(year):
 
 
 def told_of_day(winter, day, tell):
-    """What `tell` says of the day's date; "1 for a winter outside 2010..2098",
-    "then 10 for a day outside the book"."""
+    """What `tell` says of the day's date; 1 where there is no such winter, and if there is
+    one, 10 where its book has no such day."""
     if winter not in WINTERS:
         return WRONG_WINTER, ()
     if day >= len(book_dates(winter)):
@@ -96,13 +97,15 @@ def told_of_day(winter, day, tell):
 
 
 def weekday(winter, day):
-    """0 for Sunday to 6 for Saturday; "1 November 2026 is a Sunday"."""
+    """0 for Sunday to 6 for Saturday. Document 01 has the names of weekdays and no numbers:
+    these are a choice of ours, "The numbers of weekdays"."""
     return told_of_day(winter, day, lambda on: (on.isoweekday() % 7,))
 
 
 def kind(winter, day):
     """Whether a day is in the winter period, from 1 December on, a Saturday or a Sunday, and one
-    of the excluded days."""
+    of the excluded days. That one call tells all three is a choice of ours: "One question on a
+    day"."""
     return told_of_day(winter, day, lambda on: (
         int(on >= date(winter, 12, 1)),
         int(is_weekend(on)),
@@ -111,12 +114,13 @@ def kind(winter, day):
 
 
 def date_of_day(winter, day):
-    """Month and day of the month; "1 December is day 30"."""
+    """Month and day of the month."""
     return told_of_day(winter, day, lambda on: (on.month, on.day))
 
 
 def book_day(winter, month, day_of_month):
-    """The book day of a date; 10 where the winter's book has no such date."""
+    """The book day of a date. Document 01 has no such call. That a date which the book has not
+    gets 10, after 1 for the winter, is a choice of ours: "A date that the book has not"."""
     if winter not in WINTERS:
         return WRONG_WINTER, ()
     for day, on in enumerate(book_dates(winter)):
@@ -126,10 +130,11 @@ def book_day(winter, month, day_of_month):
 
 
 def readings(winter, lent, day):
-    """A day's readings "are handed back as that very part of the lent book; where the
-    winter, the book's length or the day is wrong, the empty part"."""
-    number, _ = date_of_day(winter, day)
-    if number or len(lent) != HOURS * len(book_dates(winter)):
+    """A day's part of a lent book: its 24 readings, and nothing where there is no such
+    winter, no such day, or the book is not that winter's."""
+    if winter not in WINTERS or day >= len(book_dates(winter)):
+        return lent[:0]
+    if len(lent) != HOURS * len(book_dates(winter)):
         return lent[:0]
     return lent[HOURS * day:HOURS * (day + 1)]
 
