@@ -10,7 +10,7 @@ from datetime import date
 from functools import partial
 from itertools import product
 
-from cases.checks import Case, check_every, check_group, check_share
+from cases.checks import Case, check_built, check_every, check_group, check_share
 from cases.layers import both_of_days, fields
 from common.harness import Failure, run_tests
 from second import winters
@@ -25,6 +25,13 @@ POSSIBLE = {
     "book_day": ("0", "1", "10"),
     "readings": ("0", "24"),
 }
+
+# What calls say to a year that is no winter, to a day that the book has not, and to such a date.
+NO_WINTER = {
+    "days": "1", "weekday": "1", "kind": "1", "date": "1", "book_day": "1", "readings": "0",
+}
+NO_DAY = {"weekday": "10", "kind": "10", "date": "10", "readings": "0"}
+NO_DATE = {"book_day": "10"}
 
 # Queries that are mostly refused would compare little: this share of all of them
 # must be about a real day of a real winter.
@@ -104,6 +111,49 @@ def random_queries():
     ]
 
 
+def days_outside():
+    """Days behind the last one of every winter's book, with a book of the right length. Some
+    turn into a day of the book when cut to 8, 16 or 31 bits."""
+    cases = []
+    for w in winters.WINTERS:
+        n = len(winters.book_dates(w))
+        far = (365, 366, *(2**bits + n - 1 for bits in (8, 16, 31)), 2**32 - 1)
+        cases += [Case((w, day, 24 * n), NO_DAY) for day in (*range(n, n + 40), *far)]
+    return cases
+
+
+def dates_outside():
+    """The months that no book has, days that a month has not, the leap day where there is none,
+    and months that no year has."""
+    cut = (2**8, 2**16, 2**31)
+    never = (
+        *product(range(4, 11), range(33)),
+        (11, 31), (2, 30), (2, 31), *product((11, 12, 1, 2, 3), (0, 32)),
+        (0, 1), (13, 1), (2**32 - 1, 1), (12, 2**32 - 1),
+        *((one + 12, 1) for one in cut), *((12, one + 1) for one in cut),
+    )
+    common = [w for w in winters.WINTERS if len(winters.book_dates(w)) == 151]
+    queries = [*((w, *on) for w in (2010, 2026, 2027, 2098) for on in never)]
+    return [Case(query, NO_DATE) for query in (*queries, *((w, 2, 29) for w in common))]
+
+
+def winters_outside():
+    """Years that are no winter, with days and dates that a book has, and others: 1 comes first.
+    2099 alone of them ends a winter, and so has an Easter."""
+    years = (*range(1990, 2010), *range(2099, 2121), 0, 1, 2**16 + 2026, 2**31 + 2026, 2**32 - 1)
+    asked = ((0, 3624), (30, 3648), (150, 3624), (12, 1), (11, 31), (152, 3624), (2**32 - 1, 0))
+    return [
+        Case((year, *one), NO_WINTER | {"easter": "0,4,12" if year == 2099 else "1"})
+        for year, one in product(years, asked)
+    ]
+
+
+OUTSIDE = (
+    ("days behind the book", days_outside),
+    ("dates that the book has not", dates_outside),
+    ("years that are no winter", winters_outside),
+)
+
 GROUPS = (
     ("every day of every winter", every_day),
     ("every date of every winter", every_date),
@@ -120,6 +170,19 @@ GROUPS = (
 def check_queries(make, answered):
     """The queries of a group get the same lines; none of them is built for one."""
     check_group(lambda: [Case(query) for query in make()], both_of_days, answered)
+
+
+def told_outside(case, line):
+    """What a line says in the fields that its query was built for."""
+    said = fields(line)
+    return {call: said.get(call) for call in case.built_for}
+
+
+def check_outside(make):
+    """Outside the book, and outside all winters, both programs say what was known beforehand."""
+    answered = []
+    check_group(make, both_of_days, answered)
+    check_built(told_outside, answered)
 
 
 def check_every_number(answered):
@@ -165,6 +228,7 @@ def all_tests():
     return [
         ("second program's Easter by document 01's formula", check_second_easter),
         *((name, partial(check_queries, make, answered)) for name, make in GROUPS),
+        *((name, partial(check_outside, make)) for name, make in OUTSIDE),
         ("every possible number was given", partial(check_every_number, answered)),
         ("enough queries were accepted", partial(check_accepted, answered)),
     ]

@@ -6,11 +6,12 @@
  *
  * 1, the calendar: three numbers w, a and b. A line has these and then, as NAME=number,values, the
  * answer of each call: on winter or year w, on day a, on the date of month a and day b, and on day
- * a's part of a book of b numbers.
+ * a's part of a book of b numbers. A reading past the part's end comes last, as past=reading, if
+ * it is not 0.
  *
  * 2, the event hours of a list: how many numbers it has, and these. A line has the event hours of
- * each day that has any, as DAY:MASK, and each notice's event as it comes back from them, as
- * START+LENGTH.
+ * each day that has any, as DAY:MASK, where days that no book has are asked too, and each notice's
+ * event as it comes back from them, as START+LENGTH.
  *
  * 3, the energy of an event: winter, count, length, seed, low, spread, changes, day, start and end,
  * then the numbers of a list, then pairs of a place and a value, which are set in the book that is
@@ -24,7 +25,7 @@
 
 #include "probe.h"
 
-enum { DAYS = 152, LONGEST_BOOK = 3648, ANY_BOOK = 3672, MOST_NUMBERS = 400 };
+enum { HOURS = 24, DAYS = 152, LONGEST_BOOK = 3648, ANY_BOOK = 3672, MOST_NUMBERS = 400 };
 
 static uint32_t list[MOST_NUMBERS], pairs[MOST_NUMBERS], book[ANY_BOOK];
 
@@ -100,6 +101,18 @@ static void put_part(uint32_t winter, size_t numbers, uint32_t day)
                probe_part_reading(winter, book, numbers, day, length - 1));
 }
 
+/* Nothing is past a part's end: such an hour's reading is 0. */
+static void put_past(uint32_t winter, size_t numbers, uint32_t day)
+{
+    size_t length = probe_part_length(winter, book, numbers, day);
+    size_t hours[] = {length, length + 1, HOURS, LONGEST_BOOK, SIZE_MAX};
+    for (size_t i = 0; i < sizeof hours / sizeof *hours; i++) {
+        uint32_t reading = probe_part_reading(winter, book, numbers, day, hours[i]);
+        if (reading != 0)
+            printf(" past=%" PRIu32, reading);
+    }
+}
+
 static void answer_days(void)
 {
     uint32_t query[3];
@@ -115,6 +128,7 @@ static void answer_days(void)
         put_pair("date", probe_date(w, a));
         put_answer("book_day", probe_book_day(w, a, b));
         put_part(w, b < LONGEST_BOOK ? b : LONGEST_BOOK, a);
+        put_past(w, b < LONGEST_BOOK ? b : LONGEST_BOOK, a);
         putchar('\n');
     }
 }
@@ -125,7 +139,7 @@ static void put_masks(size_t numbers)
 {
     const char *comma = "";
     printf("masks=");
-    for (size_t day = 0; day < DAYS; day++) {
+    for (size_t day = 0; day < 2 * DAYS; day++) {
         uint32_t mask = probe_mask(list, numbers, day);
         if (mask != 0) {
             printf("%s%zu:%" PRIu32, comma, day, mask);
