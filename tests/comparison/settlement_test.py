@@ -1,8 +1,8 @@
 """Compares the library, called from C, with the second program, call by call.
 
-The driver calls the list check and the settlement with lent bytes, and second/settlements.py is
-asked the same. The answers and every byte of the outputs must be the same, and nothing else may
-be touched. Where a call was built for an answer, the library must give it too.
+The driver makes both calls with lent bytes, and second/settlements.py is asked the same. The
+answers and every byte of the outputs must be the same, and nothing else may be touched. Where a
+call was built for an answer, the library must give it too.
 The last line printed is "N passed, M failed".
 """
 
@@ -14,6 +14,7 @@ from cases.calls import LINE_BYTES, both_of_calls, is_settlement, lines_of, outp
 from cases.checks import (
     check_built, check_every, check_group, check_happened, check_share, check_worth,
 )
+from cases.notice_lists import open_days
 from cases.settlement_books import LARGEST_ENERGY
 from cases.settlement_cases import GROUPS
 from common.harness import Failure, run_tests
@@ -68,6 +69,30 @@ def check_every_number(answered):
     tally = Counter((column_of(case.query), given.number()) for case, given in answered)
     tally.update(("line", line.code) for lines, _ in settled_rows(answered) for line in lines)
     check_every(tally, numbers.LIST_CHECK | numbers.SETTLEMENT)
+
+
+def kinds_taken(winter, days):
+    """The kinds of days of which these are all that may have an event."""
+    every, weekend = set(open_days(winter, 1)), notices.day_kinds(winter).weekend
+    kinds = {"weekdays": every - weekend, "weekends": every & weekend}
+    return [kind for kind, open_ones in kinds.items() if open_ones <= days]
+
+
+def check_no_code_20(answered):
+    """The library gave code 20 to no line, whatever days its list took: 100 of them, and in every
+    winter all weekdays and all weekend days that may have an event."""
+    most, taken = 0, set()
+    for case, given in answered:
+        lines = lines_of(case, given)
+        if any(line.code == 20 for line in lines):
+            raise Failure(f"{case.query} got {given}")
+        if lines:
+            days = set(settlements.lent_numbers(case.query.listed)[0::3])
+            most = max(most, len(days))
+            taken |= {(case.query.winter, kind) for kind in kinds_taken(case.query.winter, days)}
+    print(f"  days with an event, at most: {most}; winters without a day of a kind: {len(taken)}")
+    if most < notices.MOST_NOTICES or len(taken) < 2 * len(winters.WINTERS):
+        raise Failure("lists could take more days")
 
 
 def check_november():
@@ -133,7 +158,8 @@ def all_tests():
         *((name, partial(check_group, make, both_of_calls, answered)) for name, make in GROUPS),
         ("what calls were built for", partial(check_built, told, answered)),
         ("every possible number and code was given", partial(check_every_number, answered)),
-        ("code 20 cannot be given", check_november),
+        ("code 20 cannot be given", partial(check_no_code_20, answered)),
+        ("November has five days of each kind", check_november),
         ("enough settlements were accepted", partial(check_accepted, answered)),
         ("what should stay was not touched", partial(check_untouched, answered)),
         ("every run of lines is worth its cents", partial(check_runs, answered)),

@@ -5,6 +5,7 @@ from one seed, so the calls are the same in every run.
 """
 
 import random
+from datetime import date, timedelta
 from itertools import product
 
 from cases.calls import LINE_BYTES, LONGEST_PART, Check
@@ -18,8 +19,8 @@ from cases.notice_lists import (
 from cases.schedule_cases import GROUPS as LIST_GROUPS
 from cases.schedule_cases import WRONG_PROFILES, WRONG_WINTERS
 from cases.settlement_books import (
-    LARGEST_ENERGY, drawn_book, full_mornings, largest_book, lowered, needed_places, only_needed,
-    packed,
+    LARGEST_ENERGY, drawn_book, drawn_savings, full_mornings, largest_book, level_book,
+    level_energies, lowered, needed_places, only_needed, packed, warm_up_places,
 )
 from cases.settlement_calls import (
     ANYTHING, EDGE_PRICES, LONGEST_LIST, NOTICE_BYTES, WRONG_PRICES, built_lines, drawn_list,
@@ -27,7 +28,8 @@ from cases.settlement_calls import (
     trial_case, wrong_books, wrong_call,
 )
 from second import settlements, winters
-from second.energies import HIGHEST_READING, MISSING
+from second.energies import HIGHEST_READING, HOURS, MISSING
+from second.notices import MOST_NOTICES
 
 # Prices at which many energies are worth an exact half: at 1,000,000 every energy that is 9
 # more than a multiple of 18.
@@ -326,6 +328,72 @@ def largest_energies():
     return cases
 
 
+# Lists that leave as few days to serve as an accepted list can, and the days of November, the only
+# ones that are left. Weekdays are told by the dates here, not by the second program.
+
+
+def weekend_day(winter, day):
+    return (date(winter, 11, 1) + timedelta(day)).weekday() >= 5
+
+
+def fullest_lists(source, winter):
+    """Lists with an event of an hour on each of 100 days, on every weekend day and on every weekday
+    that may have one: all from the first on, so that behind November no day of the kind of an
+    event is left before it."""
+    days = open_days(winter, 1)
+    for chosen in (
+        days[:MOST_NOTICES],
+        [day for day in days if weekend_day(winter, day)],
+        [day for day in days if not weekend_day(winter, day)],
+    ):
+        starts = [source.choice((6, 7, 8, 9, 16, 17, 18, 19)) for _ in chosen]
+        yield [(day, s, s + 1) for day, s in zip(chosen, starts)]
+
+
+def november_serves(winter):
+    """The last five weekdays of November and its last five weekend days, the nearest first."""
+    return {
+        kind: [day for day in reversed(range(30)) if weekend_day(winter, day) == kind][:5]
+        for kind in (False, True)
+    }
+
+
+def fullest_cases(source, winter, listed):
+    """A book with readings on the event days and on those days of November alone: every event is
+    settled. The same without a fifth day, or with one that is too high: no event is, and its place
+    is on the fifth day of its kind."""
+    serve = november_serves(winter)
+    savings = drawn_savings(source, listed)
+    book = level_book(winter, listed, savings)
+    read = {*(day for day, _, _ in listed), *serve[False], *serve[True]}
+    for place in range(len(book)):
+        if place // HOURS not in read:
+            book[place] = MISSING
+    price = drawn_price(source)
+    lines = [(0, 0, energy) for energy in level_energies(listed, savings)]
+    yield Case(settle(source, winter, packed(book), price, listed), built_lines(lines, price))
+
+    code, fault = source.choice(((21, MISSING), (22, HIGHEST_READING + 1)))
+    for days in serve.values():
+        book[HOURS * days[4]:HOURS * (days[4] + 1)] = [fault] * HOURS
+    lines = []
+    for notice in listed:
+        fifth = serve[weekend_day(winter, notice[0])][4]
+        lines.append((code, HOURS * fifth + warm_up_places(notice)[0] % HOURS, 0))
+    yield Case(settle(source, winter, packed(book), price, listed), built_lines(lines, price))
+
+
+def most_event_days():
+    """The lists that leave as few days to serve as can be, in every winter."""
+    source = random.Random(SEED)
+    return [
+        case
+        for winter in winters.WINTERS
+        for listed in fullest_lists(source, winter)
+        for case in fullest_cases(source, winter, listed)
+    ]
+
+
 def faulty_books():
     """Books that are full of faults, or of numbers around the highest reading."""
     source = random.Random(SEED)
@@ -370,6 +438,7 @@ GROUPS = (
     ("faults at all readings not needed", unneeded_faults),
     ("books of one number", even_books),
     ("the largest energies", largest_energies),
+    ("events on as many days as can be", most_event_days),
     ("faulty books", faulty_books),
     ("random settlements", random_settlements),
 )
