@@ -48,12 +48,12 @@ def check_places(answered):
     places = defaultdict(set)
     for row in statements(answered):
         places[row.number].add(row.place)
-    for number, given in places.items():
-        if number not in FIRST_PLACES:
-            if given != {0}:
-                raise Failure(f"{number} has no place, and was given at {sorted(given)}")
-        elif min(given) < FIRST_PLACES[number] or len(given) < 2:
-            raise Failure(f"{number} was given at {sorted(given)}")
+    for number, first in FIRST_PLACES.items():
+        if min(places[number], default=None) != first or len(places[number]) < 2:
+            raise Failure(f"{number}, first at {first}, was given at {sorted(places[number])}")
+    for number in places.keys() - FIRST_PLACES:
+        if places[number] != {0}:
+            raise Failure(f"{number} has no place, and was given at {sorted(places[number])}")
     print("  " + "  ".join(f"{number}: {len(places[number])}" for number in FIRST_PLACES))
 
 

@@ -13,7 +13,7 @@ from cases.checks import ACCEPTED, Case
 from cases.event_books import stepped_book
 from cases.figures import sample_query
 from cases.notice_lists import (
-    FARTHEST, WAYS, a_few, hundred_notices, list_of_count, one_notice, spoil,
+    FARTHEST, WAYS, a_few, hundred_notices, list_of_count, one_notice, open_days, spoil,
 )
 from cases.schedule_cases import WRONG_WINTERS
 from cases.settlement_books import drawn_book
@@ -54,6 +54,7 @@ CALLS = (
     ("faults at all readings not needed", calls.unneeded_faults, 25),
     ("books of one number", calls.even_books, 40),
     ("the largest energies", calls.largest_energies, 12),
+    ("events on as many days as can be", calls.most_event_days, 30),
     ("faulty books", calls.faulty_books, 40),
 )
 
@@ -350,6 +351,28 @@ def edges_of_reads():
     return cases
 
 
+# First places.
+
+
+def first_places():
+    """Every number that is given with a place, at the first that it can have: the winter's hours
+    last for 25 notices of four hours."""
+    mornings = [(day, 6, 10) for day in open_days(2026, 1)[:26]]
+    lists = (
+        ([(29, 6, 9)], (10, 0)),
+        ([(53, 6, 9)], (11, 0)),
+        ([(38, 6, 11)], (13, 0)),
+        ([(38, 6, 9), (38, 6, 9)], (15, 1)),
+        ([(38, 6, 7), (38, 8, 9)], (16, 1)),
+        (mornings, (18, 25)),
+    )
+    return [
+        *(Case(Parts(2026, 1, listed, []).text(), built_for) for listed, built_for in lists),
+        Case(b"winter:" + SMALLEST, (30, 1)),
+        Case(Parts(2026, 1, [], [Read(152, 0, (1,))]).text(), (31, 5)),
+    ]
+
+
 # Several faults at once. Each of these brings in one fault, and gives what it is refused for
 # if nothing before it in the order of refusals is wrong.
 
@@ -409,7 +432,7 @@ def too_long(source, text):
     return longer[:LONGEST_TEXT + source.choice((1, 2, len(more)))], (32, 0)
 
 
-# Document 01's order, the last one first: "text 32, 30, 1, 31, 3, 4, then the notices".
+# In the order of a text's refusals, the last one first.
 FAULTS_OF_PARTS = (wrong_notice, long_list, wrong_price, wrong_read, wrong_winter)
 FAULTS_OF_TEXTS = (broken_form, too_long)
 
@@ -557,6 +580,7 @@ GROUPS = (
     ("1 to 24 values", right_value_counts),
     ("lines with too few numbers or too many", wrong_number_counts),
     ("read lines at the edges", edges_of_reads),
+    ("numbers at the first place they can have", first_places),
     ("several faults at once", several_faults),
     ("the longest texts that are right", right_sizes),
     ("texts too long, or long and wrong", wrong_sizes),
