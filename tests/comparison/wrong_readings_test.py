@@ -77,29 +77,29 @@ THIRDS_OF_A_WH = level_query([(day, 6, 7) for day in (36, 37, 38)], [Saving(0, 1
 
 TRAPS = (
     Trap(
-        "dropping a whole day as smallest or largest instead of one value at each hour",
+        "the same two days left out at every hour",
         Reading(usual=one_day_at_all_hours), limit_query(11_000), 50_000,
     ),
     Trap(
-        "taking only the event's hours out of a reference day; the whole day is out",
+        "a day that serves beside its event",
         Reading(days=event_hours_out), other_evening_query(), 50_000,
     ),
     Trap(
-        "rounding each line by itself",
+        "every line's cents rounded alone",
         Reading(cents=each_line_by_itself), HALF_CENTS, 50_000, energies_show=False,
     ),
     *(
         Trap(
-            f"rounding the energy to whole Wh, {way}",
+            f"an energy in whole Wh, {way}",
             Reading(energy=rounding), THIRDS_OF_A_WH, 1_000_000,
         )
         for way, rounding in (
             ("down", whole_wh_down), ("to the nearest", nearest_whole_wh), ("up", whole_wh_up),
         )
     ),
-    Trap("applying the limit always", Reading(formula=limit_always), limit_query(11_000), 50_000),
+    Trap("the limit at any trial", Reading(formula=limit_always), limit_query(11_000), 50_000),
     Trap(
-        "flooring the adjustment at 0",
+        "no adjustment below 0",
         Reading(formula=floored_adjustment), mild_morning_query(), 50_000,
     ),
 )

@@ -31,9 +31,9 @@ DAY_FIGURES = (
 # A winter, and the days that it excludes besides the six fixed ones.
 FIXED_DAYS = {53, 54, 55, 60, 61, 62}
 EASTER_DAYS = (
-    ("winter 2026 excludes also days 145 and 148", 2026, (145, 148)),
-    ("winter 2023 excludes also day 149", 2023, (149,)),
-    ("winter 2027 excludes none besides the fixed days", 2027, ()),
+    ("winter 2026: Easter takes out days 145 and 148", 2026, (145, 148)),
+    ("winter 2023: Easter takes out day 149", 2023, (149,)),
+    ("winter 2027: Easter takes out no day", 2027, ()),
 )
 JANUARY_3 = 63
 
@@ -108,7 +108,7 @@ SAMPLE_READINGS = {
 # A list, the day of an event and its reference days.
 REFERENCES = (
     (
-        "winter 2026, event on day 34: reference 28, 27, 21, 20, 14",
+        "winter 2026, a notice on day 34: reference 28, 27, 21, 20, 14",
         (), 34, (28, 27, 21, 20, 14),
     ),
     (
