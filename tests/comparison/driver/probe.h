@@ -30,4 +30,7 @@ uint64_t probe_event_fault(uint32_t winter, const uint32_t *book, size_t reading
 uint64_t probe_event_energy(uint32_t winter, const uint32_t *book, size_t readings, const uint32_t *list, size_t numbers,
                             uint32_t day, uint32_t start, uint32_t end);
 
+/* The call on a text: how many bytes it wrote at the front of the output, 0 where that is too short. */
+size_t probe_statement(const uint8_t *text, size_t bytes, uint8_t *output, size_t room);
+
 #endif

@@ -19,6 +19,10 @@ from second.notices import MOST_NOTICES
 
 LONGEST_TEXT = 65_536
 
+# The bytes that the call on a text asks of its output. Document 01 says nothing of an output that
+# is too small: a choice of ours, "An output that is too small" in docs/DECISIONS.md.
+ROOM = 20_480
+
 # The mark of a missing reading cannot be written. A number of more than ten digits is larger
 # still, so it need not be worked out.
 LARGEST_NUMBER = 4_294_967_294
@@ -192,6 +196,13 @@ def statement(text):
     except Refused as refused:
         lines = [f"refused={refused.number},{refused.place}"]
     return "".join(f"{line}\n" for line in lines).encode("ascii")
+
+
+def text_call(text, output):
+    """The call on a text: how many bytes it writes at the front of the lent output, and the output
+    after it. With too little room it writes nothing."""
+    printed_bytes = statement(text) if len(output) >= ROOM else b""
+    return len(printed_bytes), printed_bytes + output[len(printed_bytes):]
 
 
 def main():
