@@ -133,7 +133,7 @@ def dates_outside():
         *((one + 12, 1) for one in cut), *((12, one + 1) for one in cut),
     )
     common = [w for w in winters.WINTERS if len(winters.book_dates(w)) == 151]
-    queries = [*((w, *on) for w in (2010, 2026, 2027, 2098) for on in never)]
+    queries = [(w, *on) for w in (2010, 2026, 2027, 2098) for on in never]
     return [Case(query, NO_DATE) for query in (*queries, *((w, 2, 29) for w in common))]
 
 
