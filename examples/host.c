@@ -78,47 +78,12 @@ static void put_every_day(uint8_t *book, uint32_t start, uint32_t end, uint32_t 
         put_readings(book, day, start, end, reading);
 }
 
-/* Words. */
-
-static const char *refusal_in_words(uint32_t number)
-{
-    switch (number) {
-    case IBISLADDER_ACCEPTED: return "accepted";
-    case IBISLADDER_REFUSED_WINTER: return "the winter is outside 2010 to 2098";
-    case IBISLADDER_REFUSED_BOOK: return "the book does not have the length of this winter";
-    case IBISLADDER_REFUSED_PRICE: return "the price is outside 1 to 1,000,000";
-    case IBISLADDER_REFUSED_LIST: return "the list is not of whole notices, or has more than 100";
-    case IBISLADDER_REFUSED_PROFILE: return "the profile is neither 1 nor 2";
-    case IBISLADDER_REFUSED_OUTPUT: return "the output has no room for a line for each notice";
-    case IBISLADDER_REFUSED_DAY: return "the day is outside the winter period";
-    case IBISLADDER_REFUSED_EXCLUDED: return "the day is excluded";
-    case IBISLADDER_REFUSED_WEEKEND: return "this profile has no events on weekends";
-    case IBISLADDER_REFUSED_HOURS: return "the hours are not inside one band";
-    case IBISLADDER_REFUSED_LENGTH: return "this profile has no events of this length";
-    case IBISLADDER_REFUSED_ORDER: return "it starts before the notice before it ends";
-    case IBISLADDER_REFUSED_BAND: return "the day and band have a notice already";
-    case IBISLADDER_REFUSED_TOTAL: return "the winter's hours are used up";
-    default: return "unknown to this host";
-    }
-}
-
-static const char *event_in_words(uint64_t code)
-{
-    switch (code) {
-    case IBISLADDER_EVENT_SETTLED: return "settled";
-    case IBISLADDER_EVENT_FEW_DAYS: return "fewer than five reference days";
-    case IBISLADDER_EVENT_MISSING: return "a needed reading is missing";
-    case IBISLADDER_EVENT_TOO_LARGE: return "a needed reading is too large";
-    default: return "unknown to this host";
-    }
-}
-
 /* Settlements. */
 
 static void print_line(struct notice notice, struct line line)
 {
     printf("line=%" PRIu32 ",%" PRIu32 ",%" PRIu32 ",%" PRIu64 ",%" PRIu64 ",%" PRIu64 ",%" PRIu64 "  %s", notice.day,
-           notice.start, notice.end, line.code, line.place, line.energy, line.cents, event_in_words(line.code));
+           notice.start, notice.end, line.code, line.place, line.energy, line.cents, ibisladder_event_text(line.code));
     /* The place of the other codes is no hour of the book. */
     if (line.code == IBISLADDER_EVENT_MISSING || line.code == IBISLADDER_EVENT_TOO_LARGE)
         printf(": day %" PRIu64 ", hour %" PRIu64, line.place / IBISLADDER_HOURS, line.place % IBISLADDER_HOURS);
@@ -211,7 +176,7 @@ static bool settle_halves(uint8_t *book)
 static bool print_answer(const char *tried, uint32_t answer, uint32_t number, uint32_t place)
 {
     uint32_t got = ibisladder_number(answer);
-    printf("%s: %" PRIu32 ",%" PRIu32 "  %s\n", tried, got, ibisladder_place(answer), refusal_in_words(got));
+    printf("%s: %" PRIu32 ",%" PRIu32 "  %s\n", tried, got, ibisladder_place(answer), ibisladder_refusal_text(got));
     return got == number && ibisladder_place(answer) == place;
 }
 

@@ -5,7 +5,8 @@
  * rule it breaks first and where. ibisladder_settle works out, for each notice of such a list, the energy spared and its worth.
  * Both are proved to answer every input as the specification says; nothing has to be checked before a call.
  *
- * The archive libibisladder.a is position-independent code for x86-64 Linux and needs nothing but memcpy and memset.
+ * The archive libibisladder.a is position-independent code for x86-64 Linux and needs nothing but memcpy and memset. The shared
+ * library libibisladder.so is the same code.
  *
  *
  * Words and units
@@ -48,6 +49,16 @@
 #ifdef __cplusplus
 extern "C" {
 #endif
+
+/*
+ * The version: major, minor, patch. While major and minor are the same, every call gives the same answer to the same input and
+ * writes the same bytes, and each size, bound, number and layout of this header stays: a program built with one such version runs
+ * with another. What may differ is the words of the two _text functions, the times and, below IBISLADDER_STACK_BYTES, the stack.
+ */
+#define IBISLADDER_VERSION_MAJOR 0
+#define IBISLADDER_VERSION_MINOR 1
+#define IBISLADDER_VERSION_PATCH 0
+#define IBISLADDER_VERSION "0.1.0"
 
 /* Sizes and bounds. */
 #define IBISLADDER_FIRST_WINTER 2010u
@@ -117,6 +128,44 @@ static inline uint32_t ibisladder_number(uint32_t answer)
 static inline uint32_t ibisladder_place(uint32_t answer)
 {
     return answer & 65535u;
+}
+
+/*
+ * Words for a refusal number or an event code, to put before a person: a constant in English without a full stop, never NULL. Any
+ * other number has words too.
+ */
+
+static inline const char *ibisladder_refusal_text(uint32_t number)
+{
+    switch (number) {
+    case IBISLADDER_ACCEPTED: return "accepted";
+    case IBISLADDER_REFUSED_WINTER: return "the winter is outside 2010 to 2098";
+    case IBISLADDER_REFUSED_BOOK: return "the book does not have the length of this winter";
+    case IBISLADDER_REFUSED_PRICE: return "the price is outside 1 to 1,000,000";
+    case IBISLADDER_REFUSED_LIST: return "the list is not of whole notices, or has more than 100";
+    case IBISLADDER_REFUSED_PROFILE: return "the profile is neither 1 nor 2";
+    case IBISLADDER_REFUSED_OUTPUT: return "the output has no room for a line for each notice";
+    case IBISLADDER_REFUSED_DAY: return "the day is outside the winter period, 1 December to 31 March";
+    case IBISLADDER_REFUSED_EXCLUDED: return "the day is excluded";
+    case IBISLADDER_REFUSED_WEEKEND: return "this profile has no events on weekends";
+    case IBISLADDER_REFUSED_HOURS: return "the hours are empty, reversed or not inside one band";
+    case IBISLADDER_REFUSED_LENGTH: return "this profile has no events of this length";
+    case IBISLADDER_REFUSED_ORDER: return "it starts before the notice before it ends";
+    case IBISLADDER_REFUSED_BAND: return "the day and band have a notice already";
+    case IBISLADDER_REFUSED_TOTAL: return "with it the events have more than 100 hours";
+    default: return "a refusal that this version does not have";
+    }
+}
+
+static inline const char *ibisladder_event_text(uint64_t code)
+{
+    switch (code) {
+    case IBISLADDER_EVENT_SETTLED: return "settled";
+    case IBISLADDER_EVENT_FEW_DAYS: return "there are fewer than five reference days";
+    case IBISLADDER_EVENT_MISSING: return "a needed reading is missing";
+    case IBISLADDER_EVENT_TOO_LARGE: return "a needed reading is above 10,000,000 Wh";
+    default: return "a code that this version does not have";
+    }
 }
 
 /*

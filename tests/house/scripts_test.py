@@ -1,0 +1,189 @@
+"""Tests the scripts that prove and run: many at once, from nothing and from built.
+
+The built program is this repository's own. What is made from nothing is made in a tiny repository
+with a stand-in for the toolchain (tiny.py), since a proof takes minutes.
+The last line printed is "N passed, M failed".
+"""
+
+import os
+import shutil
+import signal
+import subprocess
+import time
+from functools import partial
+
+from common.harness import ROOT, Failure, ended, run, run_tests, scratch
+from tiny import Tiny, ends_of
+
+STATEMENT = "scripts/statement"
+AT_ONCE = 20
+TIMES = 10
+
+WAITING = b"waiting"
+
+
+def tiny():
+    """A fresh tiny repository."""
+    folder = scratch() / "tiny"
+    shutil.rmtree(folder, ignore_errors=True)
+    return Tiny(folder)
+
+
+def check_equal(got, right, what):
+    if got != right:
+        raise Failure(f"{what}: {got}, not {right}")
+
+
+def check_many(repository, output, asked):
+    """Many statements at once: each is right, none complains but that it waits, and the toolchain
+    was asked for this and nothing else."""
+    for status, out, complaint in ends_of([repository.start(STATEMENT) for _ in range(AT_ONCE)]):
+        said = [line for line in complaint.splitlines() if WAITING not in line]
+        check_equal((status, out, said), (0, output, []), "a statement")
+    check_equal(repository.collisions(), [], "asked while at work")
+    check_equal(repository.asked(), asked, "asked of the toolchain")
+
+
+MADE = ["check statement"]
+OUTPUT = b"below" + b"statement text"
+
+
+def check_from_nothing(prepare=lambda repository: None):
+    """From nothing one makes the program and the others wait."""
+    repository = tiny()
+    prepare(repository)
+    for _ in range(TIMES):
+        repository.forget()
+        check_many(repository, OUTPUT, MADE)
+
+
+def check_built_tiny():
+    """From built the toolchain is not asked."""
+    repository = tiny()
+    check_many(repository, OUTPUT, MADE)
+    for _ in range(TIMES):
+        check_many(repository, OUTPUT, [])
+
+
+def check_built():
+    """This repository's program, from built."""
+    text = ROOT / "examples" / "winter.txt"
+    right = (0, text.with_suffix(".expected").read_bytes(), b"")
+    run(ROOT / STATEMENT, text)
+    pipes = dict.fromkeys(("stdout", "stderr"), subprocess.PIPE)
+    for _ in range(TIMES):
+        at_once = [subprocess.Popen([ROOT / STATEMENT, text], **pipes) for _ in range(AT_ONCE)]
+        for end in ends_of(at_once, None):
+            check_equal(end, right, "a statement")
+
+
+def check_changes():
+    """What changed is made again, once: a source, one below it, crates.txt, the toolchain, or a
+    program that was made past the scripts."""
+    repository = tiny()
+    check_many(repository, OUTPUT, MADE)
+    repository.change("statement", "other")
+    check_many(repository, b"belowother text", MADE)
+    repository.change("below", "deep")
+    check_many(repository, b"deepother text", MADE)
+    (repository.top / "crates.txt").write_text("below:\nstatement: below io\nhost: below\n")
+    check_many(repository, b"deepother text", MADE)
+    (repository.kit / "version").write_text("stand-in 2\n")
+    check_many(repository, b"deepother text", MADE)
+    (repository.top / "target" / "bin" / "statement").write_text("#!/bin/sh\n")
+    check_many(repository, b"deepother text", MADE)
+
+
+def check_no_change():
+    """A must-fail edit, and a crate that the program does not stand on, are no change."""
+    repository = tiny()
+    check_many(repository, OUTPUT, MADE)
+    repository.change("host", "other")
+    edits = repository.top / "crates" / "below" / "must-fail"
+    edits.mkdir()
+    (edits / "one.edit").write_text("file: src/lib.rt\n")
+    check_many(repository, OUTPUT, [])
+
+
+def check_library():
+    """An archive: what it stands on is proved first, and nothing is made twice."""
+    repository = tiny()
+    check_many(repository, OUTPUT, MADE)
+    for asked in (["check below", "staticlib host"], []):
+        ends = ends_of([repository.start("scripts/prove", "--library", "host") for _ in range(AT_ONCE)])
+        check_equal({status for status, _, _ in ends}, {0}, "exit status")
+        check_equal(repository.asked(), asked, "asked of the toolchain")
+
+
+def check_not_proved():
+    """Where the proof fails each one says so and prints nothing; mended, all is right."""
+    repository = tiny()
+    (repository.kit / "broken").touch()
+    for status, out, complaint in ends_of([repository.start(STATEMENT) for _ in range(3)]):
+        check_equal((status, out), (1, b""), "a statement")
+        if b"this is not proved\nscripts/prove: statement is not proved" not in complaint:
+            raise Failure(f"it says {complaint!r}")
+    repository.asked()
+    (repository.kit / "broken").unlink()
+    check_many(repository, OUTPUT, MADE)
+
+
+def at_work(repository):
+    """A statement that has the toolchain at work."""
+    process = repository.start(STATEMENT, stderr=subprocess.DEVNULL)
+    while not (repository.kit / "busy").exists():
+        time.sleep(0.01)
+    repository.asked()
+    return process
+
+
+def check_killed():
+    """One is killed while the toolchain is at work: the others wait until that has ended."""
+    repository = tiny()
+    for _ in range(3):
+        repository.forget()
+        process = at_work(repository)
+        os.killpg(process.pid, signal.SIGKILL)
+        process.communicate()
+        check_many(repository, OUTPUT, MADE)
+
+
+def check_stopped():
+    """One is stopped from the keyboard: the toolchain ends with it, and the others go on."""
+    repository = tiny()
+    process = at_work(repository)
+    os.killpg(process.pid, signal.SIGINT)
+    process.communicate()
+    if (repository.kit / "busy").exists():
+        raise Failure("the toolchain is still at work")
+    check_many(repository, OUTPUT, MADE)
+
+
+def check_help():
+    """--help is on standard output and names every option; a script's wrong use is not."""
+    done = run(ROOT / STATEMENT, "--help")
+    check_equal(done.stderr, b"", "on standard error")
+    for word in (b"usage: scripts/statement [--words] [FILE]", b"--words", b"Exit status"):
+        if word not in done.stdout:
+            raise Failure(f"it does not say {word.decode()}")
+    done = ended(ROOT / STATEMENT, "--words", "one", "two")
+    check_equal((done.returncode, done.stdout), (2, b""), "two files")
+
+
+TESTS = [
+    ("twenty at once from nothing, ten times", check_from_nothing),
+    ("twenty at once from nothing without flock, ten times", partial(check_from_nothing, Tiny.without_flock)),
+    ("twenty at once from built, ten times: the toolchain is not asked", check_built_tiny),
+    ("twenty at once from built, ten times: the proved program", check_built),
+    ("a change is made once", check_changes),
+    ("no change, nothing made", check_no_change),
+    ("an archive is made once", check_library),
+    ("a proof that fails", check_not_proved),
+    ("killed while the toolchain is at work", check_killed),
+    ("stopped while the toolchain is at work", check_stopped),
+    ("--help", check_help),
+]
+
+
+if __name__ == "__main__":
+    run_tests(TESTS)
