@@ -2,13 +2,16 @@
 
 Each text must get the statement that stands beside it, which must be the second program's
 too. A wrong use gets a word on standard error and exit status 2, and nothing is printed.
+The mistakes that docs/TEXT.md tells of get the answers that it says, by the second program.
 The last line printed is "N passed, M failed".
 """
 
+import re
 from functools import partial
 
 from common.harness import ROOT, Failure, ended, run, run_tests, scratch
 from second.statements import statement
+from sources import check_none, rows
 
 EXAMPLES = sorted((ROOT / "examples").glob("*.txt"))
 SCRIPT = ROOT / "scripts" / "statement"
@@ -36,6 +39,44 @@ def check_wrong_use(arguments):
         raise Failure(f"it prints {done.stdout!r}, and {done.stderr!r} on standard error")
 
 
+def with_line(text, line):
+    """A text with a line in place of the one that it is written for: that of its key, day and
+    hour, or else of its key and day, or of its key."""
+    lines = text.splitlines()
+    key, *numbers = re.split("[=,]", line)
+    for alike in (numbers[:2], numbers[:1], []):
+        start = rf"{key}={','.join(alike)}\b"
+        found = [number for number, one in enumerate(lines) if re.match(start, one)]
+        if found:
+            lines[found[0]] = line
+            break
+    return "".join(f"{one}\n" for one in lines)
+
+
+def mistakes_of_page():
+    """The rows of TEXT.md's mistakes that are one other line of the sample: where the row stands,
+    the text with that line, and the beginning of the answer, empty for a statement."""
+    sample = (ROOT / "examples" / "winter.txt").read_text()
+    for row in rows(ROOT / "docs" / "TEXT.md"):
+        for line in re.findall(r"`(\w+=[^`]*)`", row.cells[1]) if row.head[0] == "mistake" else []:
+            text = with_line(sample, line)
+            if ".." not in line and text != sample:
+                refused = re.match(r"`(refused=\d+(?:,\d+)?)`", row.cells[2])
+                yield row.place(), text, refused[1] if refused else ""
+
+
+def check_mistakes():
+    """What TEXT.md says of a mistake is so."""
+    found, count = [], 0
+    for place, text, right in mistakes_of_page():
+        count += 1
+        answer = statement(text.encode()).decode()
+        if not (re.match(rf"{right}\b", answer) if right else answer.startswith("winter=")):
+            found.append(f"{place} {answer.splitlines()[0]}")
+    print(f"  mistakes: {count}")
+    check_none(found, "other answers")
+
+
 def check_there_are_examples():
     """No example would test nothing."""
     if not EXAMPLES:
@@ -48,6 +89,7 @@ TESTS = [
     ("a file that is not there", partial(check_wrong_use, ["no such file"])),
     ("a folder for a file", partial(check_wrong_use, [ROOT / "examples"])),
     ("two files", partial(check_wrong_use, EXAMPLES[:1] * 2)),
+    ("TEXT.md's mistakes get the answers that it says", check_mistakes),
 ]
 
 

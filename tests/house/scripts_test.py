@@ -10,7 +10,6 @@ import shutil
 import signal
 import subprocess
 import time
-from functools import partial
 
 from common.harness import ROOT, Failure, ended, run, run_tests, scratch
 from tiny import Tiny, ends_of
@@ -18,6 +17,7 @@ from tiny import Tiny, ends_of
 STATEMENT = "scripts/statement"
 AT_ONCE = 20
 TIMES = 10
+FEW_TIMES = 2
 
 WAITING = b"waiting"
 
@@ -48,20 +48,25 @@ MADE = ["check statement"]
 OUTPUT = b"below" + b"statement text"
 
 
-def check_from_nothing(prepare=lambda repository: None):
+def check_from_nothing(repository, times):
     """From nothing one makes the program and the others wait."""
-    repository = tiny()
-    prepare(repository)
-    for _ in range(TIMES):
+    for _ in range(times):
         repository.forget()
         check_many(repository, OUTPUT, MADE)
 
 
-def check_built_tiny():
+def check_without_flock():
+    """The same by the other way to take the lock."""
+    repository = tiny()
+    repository.without_flock()
+    check_from_nothing(repository, FEW_TIMES)
+
+
+def check_not_asked():
     """From built the toolchain is not asked."""
     repository = tiny()
     check_many(repository, OUTPUT, MADE)
-    for _ in range(TIMES):
+    for _ in range(FEW_TIMES):
         check_many(repository, OUTPUT, [])
 
 
@@ -171,9 +176,9 @@ def check_help():
 
 
 TESTS = [
-    ("twenty at once from nothing, ten times", check_from_nothing),
-    ("twenty at once from nothing without flock, ten times", partial(check_from_nothing, Tiny.without_flock)),
-    ("twenty at once from built, ten times: the toolchain is not asked", check_built_tiny),
+    ("twenty at once from nothing, ten times", lambda: check_from_nothing(tiny(), TIMES)),
+    ("twenty at once from nothing, without flock", check_without_flock),
+    ("twenty at once from built: the toolchain is not asked", check_not_asked),
     ("twenty at once from built, ten times: the proved program", check_built),
     ("a change is made once", check_changes),
     ("no change, nothing made", check_no_change),
