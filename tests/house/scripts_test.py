@@ -48,18 +48,12 @@ MADE = ["check statement"]
 OUTPUT = b"below" + b"statement text"
 
 
-def check_from_nothing(repository, times):
+def check_from_nothing():
     """From nothing one makes the program and the others wait."""
-    for _ in range(times):
+    repository = tiny()
+    for _ in range(TIMES):
         repository.forget()
         check_many(repository, OUTPUT, MADE)
-
-
-def check_without_flock():
-    """The same by the other way to take the lock."""
-    repository = tiny()
-    repository.without_flock()
-    check_from_nothing(repository, FEW_TIMES)
 
 
 def check_not_asked():
@@ -176,8 +170,7 @@ def check_help():
 
 
 TESTS = [
-    ("twenty at once from nothing, ten times", lambda: check_from_nothing(tiny(), TIMES)),
-    ("twenty at once from nothing, without flock", check_without_flock),
+    ("twenty at once from nothing, ten times", check_from_nothing),
     ("twenty at once from built: the toolchain is not asked", check_not_asked),
     ("twenty at once from built, ten times: the proved program", check_built),
     ("a change is made once", check_changes),

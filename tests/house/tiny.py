@@ -9,7 +9,6 @@ import os
 import platform
 import shutil
 import subprocess
-import sys
 from contextlib import suppress
 
 from common.harness import ROOT, SECONDS_ALLOWED
@@ -40,12 +39,6 @@ mv target/bin/new target/bin/statement
 LOADER = '#!/bin/sh\nshift 2\nexec "$@"\n'
 EMULATOR = '#!/bin/sh\nexec "$@"\n'
 
-# What the scripts call besides the toolchain, without flock.
-COMMANDS = (
-    "awk bash cat chmod cut dirname env find grep mkdir mktemp mv rm rmdir sh sha256sum sleep sort uname"
-).split()
-
-
 def write(path, text, mode=0o644):
     path.parent.mkdir(parents=True, exist_ok=True)
     path.write_text(text)
@@ -71,13 +64,6 @@ class Tiny:
     def change(self, crate, text):
         """Writes the one source of a crate."""
         write(self.top / "crates" / crate / SOURCES[crate], text)
-
-    def without_flock(self):
-        """From here on the scripts find no command flock."""
-        for name in COMMANDS:
-            (self.kit / "bin" / name).symlink_to(shutil.which(name))
-        (self.kit / "bin" / "python3").symlink_to(sys.executable)
-        self.path = str(self.kit / "bin")
 
     def forget(self):
         """Removes all that was made."""
