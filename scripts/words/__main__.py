@@ -1,17 +1,17 @@
-"""The statement of a text in words: python3 scripts/words <TEXT, as scripts/statement --words runs it.
+"""The statement of a text in words, as scripts/statement --words runs it:
 
-The proved program answers the text; what is printed here is that answer, and what stands in the
-text at the lines that it is about. The exit status is 3 where the text is refused.
+    PYTHONPATH=scripts python3 -m words <TEXT
+
+The proved program answers the text. What is printed is that answer, and what stands in the text
+at the lines that it is about. The exit status is 3 where the text is refused.
 """
 
 import subprocess
 import sys
 from pathlib import Path
 
-import odd
-import refusals
-import statements
-from texts import Refusal, Text, answer_of
+from words.pages import page_of
+from words.texts import Refusal, Text, answer_of
 
 PROGRAM = Path(__file__).resolve().parents[1] / "program"
 
@@ -32,11 +32,9 @@ def asked(text):
 
 def main():
     given = sys.stdin.buffer.read(READ_AT_MOST)
-    text, answer = Text(given), answer_of(asked(given))
-    if isinstance(answer, Refusal):
-        print(*refusals.page(text, answer), sep="\n")
-        sys.exit(REFUSED)
-    print(*statements.page(text, answer), *odd.page(text, answer), sep="\n")
+    answer = answer_of(asked(given))
+    print(*page_of(Text(given), answer), sep="\n")
+    sys.exit(REFUSED if isinstance(answer, Refusal) else 0)
 
 
 if __name__ == "__main__":

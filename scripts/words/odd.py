@@ -1,7 +1,7 @@
 """Last words on a statement: what stands in its text and looks odd. It changes no figure."""
 
-from moments import event_in_words
-from statements import cents_per_kwh
+from words.moments import event_in_words
+from words.statements import cents_per_kwh
 
 ONE_CENT = 1000
 HUNDREDFOLD = 100
@@ -38,29 +38,38 @@ def all_missing(text, statement):
         )
 
 
+def odd_pair(read):
+    """The first neighbours in a line of readings that differ a hundredfold, if any."""
+    pairs = zip(read.values, read.values[1:])
+    return next((pair for pair in pairs if is_hundredfold(*pair)), None)
+
+
 def commas(text, statement):
-    """Lines of readings with neighbours that differ a hundredfold; the first is told."""
-    found = []
-    for read in text.reads():
-        pairs = zip(read.values, read.values[1:])
-        odd = next((pair for pair in pairs if is_hundredfold(*pair)), None)
-        found += [(read.line, odd)] if odd else []
+    """Lines of readings with such neighbours; the first is told."""
+    found = [read for read in text.reads() if odd_pair(read)]
     if found:
-        line, (one, other) = found[0]
+        one, other = odd_pair(found[0])
+        more = and_more(len(found) - 1, "such lines")
         yield (
-            f"line {line}: {one} and {other} stand side by side{and_more(len(found) - 1, 'such lines')};"
+            f"line {found[0].line}: {one} and {other} stand side by side{more};"
             " was a decimal comma typed? Each comma begins the next hour's reading"
         )
 
 
+def is_for_nothing(line):
+    """Whether an event is settled and spared nothing."""
+    return line.code == SETTLED and line.energy == 0
+
+
 def nothing_spared(text, statement):
-    """Settled lines without energy; the first is told."""
-    found = [(n, line) for n, line in enumerate(statement.lines) if line.code == SETTLED and line.energy == 0]
+    """Such events; the first is told."""
+    found = [index for index, line in enumerate(statement.lines) if is_for_nothing(line)]
     if found:
-        index, line = found[0]
+        about = event_in_words(text.winter, statement.lines[found[0]].notice)
+        more = and_more(len(found) - 1, "such events")
         yield (
-            f"line {text.notice_line(index)}: {event_in_words(text.winter, line.notice)}, is settled and spared nothing"
-            f"{and_more(len(found) - 1, 'such events')}; are the day and the readings right?"
+            f"line {text.notice_line(found[0])}: {about}, is settled and spared nothing{more};"
+            " are the day and the readings right?"
         )
 
 

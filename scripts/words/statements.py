@@ -2,7 +2,7 @@
 
 from bisect import bisect_left
 
-from moments import event_in_words, place_in_words
+from words.moments import event_in_words, place_in_words
 
 # Energies are in eighteenths of a Wh.
 PARTS = 18
@@ -54,9 +54,10 @@ def missing(text, line):
 def too_large(text, line):
     """22: which reading, and where in the text it stands."""
     read = next(read for read in text.reads() if read.start <= line.place < read.end)
+    value = read.values[line.place - read.start]
     where = place_in_words(text.winter, line.place)
     return (
-        f"not settled (22): the reading of {where}, in line {read.line} is {read.values[line.place - read.start]} Wh,"
+        f"not settled (22): the reading of {where}, in line {read.line} is {value} Wh,"
         " above 10,000,000; is it a meter's counter, or in another unit?"
     )
 
@@ -74,9 +75,10 @@ def page(text, statement):
     """The lines that a person reads."""
     count = len(statement.lines)
     notices = f"{count} notice{'' if count == 1 else 's'}"
-    yield f"Winter {winter_in_words(statement.winter)} at {cents_per_kwh(statement.price)}, {notices}"
+    price = cents_per_kwh(statement.price)
+    yield f"Winter {winter_in_words(statement.winter)} at {price}, {notices}"
     for index, line in enumerate(statement.lines):
         yield line_in_words(text, index, line)
     yield f"together: {kwh(statement.energy)} spared, {dollars(statement.cents)}"
     if any(line.energy % PARTS for line in statement.lines):
-        yield "(kWh are rounded here, to the third decimal; the cents are those of the exact energies.)"
+        yield "(kWh are rounded to the third decimal; the cents are those of the exact energies.)"

@@ -6,7 +6,7 @@ text that has a statement or another refusal than 30, and the lines before the p
 
 from typing import NamedTuple
 
-from moments import HOURS
+from words.moments import HOURS
 
 # The lines before the first notice; `reads=` is the line behind the last one.
 HEAD = 3

@@ -139,7 +139,10 @@ def refused_settlements():
 def refusal_page():
     """Each trial with its number, its place and its words."""
     words = words_of("ibisladder_refusal_text")
-    answers = [(tried, list_check(winter, profile, flat(notices))) for tried, winter, profile, notices in trials()]
+    answers = [
+        (tried, list_check(winter, profile, flat(notices)))
+        for tried, winter, profile, notices in trials()
+    ]
     for tried, (number, place, *_) in (*answers, *long_lists(), *refused_settlements()):
         yield f"{tried}: {number},{place}  {words[number]}"
     yield "written by these: nothing"

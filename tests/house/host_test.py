@@ -237,14 +237,16 @@ def check_manuals():
     """The man pages are those of man/, and name every function of the header, every number that
     a text can get and every code."""
     for section, name in ((1, "statement"), (3, "ibisladder")):
-        page_of = f"{name}.{section}"
-        check_same_file(installed() / "share" / "man" / f"man{section}" / page_of, ROOT / "man" / page_of)
+        manual = f"{name}.{section}"
+        folder = installed() / "share" / "man" / f"man{section}"
+        check_same_file(folder / manual, ROOT / "man" / manual)
     library = (ROOT / "man" / "ibisladder.3").read_text()
-    functions = re.findall(r"\b(ibisladder_\w+)\(", HEADER.read_text())
-    check_none(sorted(name for name in set(functions) if f"{name}(" not in library), "not in ibisladder.3")
+    functions = {*re.findall(r"\b(ibisladder_\w+)\(", HEADER.read_text())}
+    check_none(sorted(name for name in functions if f"{name}(" not in library), "not in (3)")
     program = (ROOT / "man" / "statement.1").read_text()
     possible = {*numbers.TEXT["text"], *numbers.CODES}
-    check_none(sorted(n for n in possible if not re.search(rf"\b{n}\b", program)), "not in statement.1")
+    missing = [number for number in possible if not re.search(rf"\b{number}\b", program)]
+    check_none(sorted(missing), "not in (1)")
 
 
 def check_uninstalled():
@@ -292,7 +294,7 @@ TESTS = [
     ("the header is C++17", partial(check_header, "c++", "c++", "c++17")),
     ("words for every refusal", partial(
         check_words, "ibisladder_refusal_text", ("IBISLADDER_ACCEPTED", "IBISLADDER_REFUSED_"),
-        {*numbers.SETTLEMENT["settlement"], *(n for given in numbers.LIST_CHECK.values() for n in given)},
+        set().union(numbers.SETTLEMENT["settlement"], *numbers.LIST_CHECK.values()),
     )),
     ("words for every event code", partial(
         check_words, "ibisladder_event_text", ("IBISLADDER_EVENT_",), numbers.CODES,

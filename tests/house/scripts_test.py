@@ -11,7 +11,7 @@ import signal
 import subprocess
 import time
 
-from common.harness import ROOT, Failure, ended, run, run_tests, scratch
+from common.harness import ROOT, SECONDS_ALLOWED, Failure, ended, run, run_tests, scratch
 from tiny import Tiny, ends_of
 
 STATEMENT = "scripts/statement"
@@ -109,7 +109,8 @@ def check_library():
     repository = tiny()
     check_many(repository, OUTPUT, MADE)
     for asked in (["check below", "staticlib host"], []):
-        ends = ends_of([repository.start("scripts/prove", "--library", "host") for _ in range(AT_ONCE)])
+        prove = ("scripts/prove", "--library", "host")
+        ends = ends_of([repository.start(*prove) for _ in range(AT_ONCE)])
         check_equal({status for status, _, _ in ends}, {0}, "exit status")
         check_equal(repository.asked(), asked, "asked of the toolchain")
 
@@ -130,8 +131,11 @@ def check_not_proved():
 def at_work(repository):
     """A statement that has the toolchain at work."""
     process = repository.start(STATEMENT, stderr=subprocess.DEVNULL)
+    end = time.monotonic() + SECONDS_ALLOWED
     while not (repository.kit / "busy").exists():
         time.sleep(0.01)
+        if time.monotonic() > end:
+            raise Failure("the toolchain is not asked")
     repository.asked()
     return process
 

@@ -30,7 +30,8 @@ sleep 0.2
 [ ! -e "$kit/broken" ] || {{ echo "this is not proved"; exit 1; }}
 mkdir -p target/log target/bin target/staticlib
 echo made >"target/staticlib/lib$2.a"
-printf '#!/bin/sh\\nprintf "%s "\\ncat\\n' "$(cat crates/below/src/lib.rt crates/statement/src/main.rt)" >target/bin/new
+source=$(cat crates/below/src/lib.rt crates/statement/src/main.rt)
+printf '#!/bin/sh\\nprintf "%s "\\ncat\\n' "$source" >target/bin/new
 chmod +x target/bin/new
 mv target/bin/new target/bin/statement
 """
