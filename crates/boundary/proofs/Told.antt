@@ -6,7 +6,7 @@ use mathlib.Core.List.{List}
 use mathlib.Core.Path.{_≡_, ap}
 use native.Mathlib.Omega.{arith}
 use lib.ListN.{length, getD}
-use borrow.Author.Tests.{ne-eqb}
+use borrow.Author.Tests.{eq-eqb, ne-eqb}
 use Rattle.laws.specs.Answer.{Answer}
 use Rattle.laws.specs.Bounds.{largestPlace}
 use Rattle.credit.proofs.SettlementLaws.{number-is, settled-accepted, settlement-bounded}
@@ -14,7 +14,7 @@ use Rattle.credit.specs.Settlement.{settlement}
 use Rattle.credit.specs.declared.call.Settlement.{Settlement}
 use Rattle.schedule.proofs.Bounds.{check-bounded}
 use Rattle.schedule.specs.ListCheck.{checkAnswer}
-use Rattle.boundary.specs.Calls.{packed, checkCall, settledOver, settleCall, settleBytes}
+use Rattle.boundary.specs.Calls.{packed, checkCall, linesOver, settledOver, settleCall, settleBytes}
 use Rattle.boundary.specs.Lent.{decoded}
 
 -- number and place of one packed number
@@ -39,14 +39,19 @@ module _ (w p : ℕ) (book list out : List ℕ) where
   unfolding settleCall
   settle-told = packed-told _ _ (settlement-bounded w p (decoded book) (decoded list) (length out / 8) .1)
 
-  -- "0 if none"
+  -- rule 9.5: an accepted call answers 0
   pub accepted-told : settled .number ≡ 0 → settleCall w book p list (length out) ≡ 0
   unfolding settleCall
   accepted-told z =
       let none = number-is w p (decoded book) (decoded list) (length out / 8) z in
       omega (arith, z, ap (λ (s : Settlement). s .place) (settled-accepted w p (decoded book) (decoded list) (length out / 8) none))
 
-  -- "Whole-call refusals return the number and a place, and write nothing"
+  -- rules 9.7 and 10.2: a refused call leaves every byte
   pub refused-unwritten : (settleCall w book p list (length out) ≡ 0 → ⊥) → settleBytes w book p list out ≡ out
   unfolding settleBytes settledOver
   refused-unwritten f = rw (ne-eqb (settled .number) 0 (λ (z : settled .number ≡ 0). f (accepted-told z)))
+
+  -- an accepted settlement leaves the bytes of its lines
+  pub accepted-written : settled .number ≡ 0 → settleBytes w book p list out ≡ linesOver w (decoded book) p (decoded list) out
+  unfolding settleBytes settledOver
+  accepted-written z = rw (eq-eqb (settled .number) 0 z)

@@ -77,27 +77,9 @@ past-period w d e = rw (le-ltb d (w .days) (leb-true (w .days) d e)) (and-false 
     and-false true = refl
     and-false false = refl
 
--- weekdays go round by seven
+-- up to day 119 the fixed days are excluded, and no others
 
-pub weekday-range : (w : Winter) (d : ℕ) → weekday w d < 7
-unfolding weekday
-weekday-range w d = omega arith
-
-pub weekday-seven : (w : Winter) (d : ℕ) → weekday w (d + 7) ≡ weekday w d
-unfolding weekday
-weekday-seven w d = omega arith
-
-pub weekend-seven : (w : Winter) (d : ℕ) → weekend w (d + 7) ≡ weekend w d
-unfolding weekend
-weekend-seven w d = rw (weekday-seven w d)
-
--- excluded days: the fixed ones; up to day 119 no others; from day 120 on Good Friday and Easter Monday, and only they
-
-pub fixed-excluded : (w : Winter) (d : ℕ) → among d fixedDays ≡ true → excluded w d ≡ true
-unfolding excluded
-fixed-excluded w d e = rw e
-
-pub early-excluded : (y d : ℕ) → d < 120 → excluded (winterOf y) d ≡ among d fixedDays
+early-excluded : (y d : ℕ) → d < 120 → excluded (winterOf y) d ≡ among d fixedDays
 unfolding excluded goodFriday easterMonday winterOf
 early-excluded y d h =
     rw (
@@ -110,19 +92,6 @@ early-excluded y d h =
     no-more true b = refl
     no-more false true = refl
     no-more false false = refl
-
-pub late-excluded : (w : Winter) (d : ℕ) → 120 ≤ d → d < w .days → excluded w d ≡ (goodFriday w d || easterMonday w d)
-unfolding excluded among noDay
-late-excluded w d l h =
-    rw (
-      ne-eqb 53 d (λ (e : 53 ≡ d). omega arith),
-      ne-eqb 54 d (λ (e : 54 ≡ d). omega arith),
-      ne-eqb 55 d (λ (e : 55 ≡ d). omega arith),
-      ne-eqb 60 d (λ (e : 60 ≡ d). omega arith),
-      ne-eqb 61 d (λ (e : 61 ≡ d). omega arith),
-      ne-eqb 62 d (λ (e : 62 ≡ d). omega arith),
-      lt-leb (w .days) d h,
-    )
 
 -- November: no excluded day, at least eight weekend days and twenty weekdays
 

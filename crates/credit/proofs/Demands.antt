@@ -17,7 +17,7 @@ use Rattle.laws.specs.Table.{isRefusal}
 use Rattle.laws.proofs.SumLaws.{run-same, run-first}
 use Rattle.laws.specs.Sums.{runOf}
 use Rattle.money.proofs.CentLaws.{cents-next, cents-first, run-near, first-run-near}
-use Rattle.money.proofs.WorthLaws.{Near, NearHalf}
+use Rattle.money.specs.Near.{Near, NearHalf}
 use Rattle.money.specs.Cents.{centsAt}
 use Rattle.money.specs.Worth.{centParts, exactWorth, roundedWorth}
 use Rattle.notices.specs.Notices.{countOf, noticeAt}
@@ -61,22 +61,22 @@ module _ (w p : ℕ) (book l out : List ℕ) (ok : settlement w book p l (length
   cents-run-is : (i k : ℕ) → i + k ≤ n → runOf (centsIn output) i k ≡ runOf (centsAt p (energyAt events)) i k
   cents-run-is i k h = run-same (centsIn output) (centsAt p (energyAt events)) i k (λ j b. cents j (omega arith))
 
-  -- DEMAND 3: "the printed cents of any run of consecutive lines differ from the exact worth of those lines' energy by less than one cent"
+  -- rule 10.6: any run of lines, to less than a cent
   pub run-within-a-cent : (i k : ℕ) → i + k ≤ n → Near (centParts * runOf (centsIn output) i k) (exactWorth p (runOf (energyIn output) i k)) centParts
   run-within-a-cent i k h = rw (cents-run-is i k h, energy-run-is i k h) (run-near p (energyAt events) i k)
 
-  -- "and by at most half a cent if the run starts at the first line"
+  -- rule 10.7: one that begins with the first line, to half a cent
   pub first-run-within-half : (k : ℕ) → k ≤ n → NearHalf (centParts * runOf (centsIn output) 0 k) (exactWorth p (runOf (energyIn output) 0 k)) centParts
   first-run-within-half k h = rw (cents-run-is 0 k (omega arith), energy-run-is 0 k (omega arith)) (first-run-near p (energyAt events) k)
 
-  -- "no line is negative": its cents are the whole way from the rounded worth before it to the rounded worth with it, and nothing was cut off
+  -- rule 10.8: its cents are the whole way from the rounded worth before it to the rounded worth with it, and nothing was cut off
   pub no-line-negative : (k : ℕ) → k < n → roundedWorth p (runOf (energyIn output) 0 k) + centsIn output k ≡ roundedWorth p (runOf (energyIn output) 0 (suc k))
   no-line-negative k h =
       let before = energy-run-is 0 k (omega arith) ∙ run-first (energyAt events) k in
       let with-it = energy-run-is 0 (suc k) (omega arith) ∙ run-first (energyAt events) (suc k) in
       rw (cents k h, before, with-it) (cents-next p (energyAt events) k)
 
-  -- "the lines add up to the printed total", in cents and in energy
+  -- rule 10.9: in cents and in energy
   pub cents-add-up : runOf (centsIn output) 0 n ≡ settlement w book p l (length out) .cents
   cents-add-up = rw (cents-run-is 0 n (omega arith), cents-first p (energyAt events) n, settled-accepted w p book l (length out) none)
 
@@ -90,6 +90,6 @@ module _ (w p : ℕ) (book l out : List ℕ) (ok : settlement w book p l (length
       let r = list-lawful w (length book) p l (length out) none in
       rw output-is (told-is p events (drop (lineNumbers * n) out) n k h) ∙ event-is-line w book l k (s .book) (r .each k h)
 
-  -- "Numbers past the last line are untouched."
+  -- rule 7.6: what stands behind the lines stays
   pub past-untouched : drop (lineNumbers * n) output ≡ drop (lineNumbers * n) out
   past-untouched = rw output-is (drop-at (linesTo p events n) (drop (lineNumbers * n) out) (lineNumbers * n) (rows-long (line-wide p events) n))

@@ -1,28 +1,34 @@
 -- Refusals are exact: a settlement is accepted exactly when the call is right and its list keeps every rule of the winter credit; what is
--- refused is the first broken row of the table; and a refusal leaves totals 0 and writes nothing.
+-- answered is told by the table; and a refusal leaves totals 0 and writes nothing.
 -- Assumes nothing.
 use Prim.Native.Nat.{ℕ, _*_, _≤_}
-use mathlib.Core.Bool.{true}
+use mathlib.Core.Bool.{Bool, true, false}
 use mathlib.Core.List.{List}
-use mathlib.Core.Logic.{_↔_}
-use mathlib.Core.Path.{_≡_, refl, _∙_}
+use mathlib.Core.Logic.{inl, _↔_}
+use mathlib.Core.Path.{_≡_, refl, ap}
+use native.Mathlib.Omega.{arith}
 use lib.ListN.{length}
 use Rattle.book.specs.Length.{bookLength}
+use Rattle.calendar.specs.WinterOf.{winterOf}
 use Rattle.dates.specs.Winters.{days}
-use Rattle.laws.proofs.Tables.{FirstBroken, first-broken}
-use Rattle.laws.specs.Table.{isRefusal}
+use Rattle.laws.proofs.Tables.{Numbered, unrefused-none}
+use Rattle.laws.proofs.Tells.{Tells, table-tells}
+use Rattle.laws.specs.Answer.{Answer}
+use Rattle.laws.specs.Table.{Row, isRefusal}
 use Rattle.money.proofs.PriceLaws.{RightPrice}
 use Rattle.notices.specs.Notices.{countOf}
 use Rattle.notices.specs.Profiles.{figuresOf}
 use Rattle.notices.specs.declared.profiles.Profile.the-variants.{Credit}
 use Rattle.schedule.proofs.Accepted.{Lawful}
+use Rattle.schedule.proofs.Walk.{notices-numbered}
 use Rattle.credit.specs.Lines.{lineNumbers}
-use Rattle.credit.specs.Refusals.{settlementTable, refusalOf}
-use Rattle.credit.specs.Settlement.{refusedWith, settlement, written}
+use Rattle.credit.specs.Refusals.{callRows, settlementTable, refusalOf}
+use Rattle.credit.specs.Settlement.{settlement, written}
+use Rattle.credit.specs.declared.call.Settlement.{Settlement}
 use Rattle.credit.proofs.RefusalLaws.{RightCall, settlement-right, list-lawful, right-accepted}
 use Rattle.credit.proofs.SettlementLaws.{number-is, settled-accepted, settled-by, written-by}
 
--- all that a settlement asks: DEMAND 2, "A list is accepted exactly when it keeps every rule of its profile", with the call's own rules
+-- all that a settlement asks: rule 10.3, with the call's own rules
 pub record Settles (w readings p : ℕ) (l : List ℕ) (room : ℕ) : Type 0 where
   pub book : readings ≡ bookLength (days w)
   pub price : RightPrice p
@@ -40,20 +46,40 @@ accepted-iff-settles w p book l room = (
       rw (settled-accepted w p book l room (right-accepted w (length book) p l room c r)) refl,
 )
 
-module _ (w p : ℕ) (book l out : List ℕ) (e : isRefusal (refusalOf w (length book) p l (length out)) ≡ true) where
-  -- the first broken row of the table, in document 01's order
-  pub first-refusal-of : FirstBroken (settlementTable w (length book) p l (length out))
-  unfolding refusalOf
-  first-refusal-of = first-broken (settlementTable w (length book) p l (length out)) e
+-- number and place are told by the table: 0 where no row is broken, else those of its first broken row
+table-numbered : (w readings p : ℕ) (l : List ℕ) (room : ℕ) → Numbered (settlementTable w readings p l room)
+unfolding settlementTable callRows
+table-numbered w readings p l room =
+    (omega arith, (omega arith, (omega arith, (omega arith, (omega arith, notices-numbered (winterOf w) (figuresOf Credit) l)))))
 
-  -- its number and place are what the settlement answers
-  pub refused-answer : settlement w book p l (length out) ≡ refusedWith (first-refusal-of .number) (first-refusal-of .place)
-  unfolding refusalOf first-refusal-of
-  refused-answer = settled-by w p book l (length out) e ∙ rw (first-refusal-of .answer) refl
+pub settlement-tells : (w p : ℕ) (book l : List ℕ) (room : ℕ)
+    → Tells (settlementTable w (length book) p l room) (settlement w book p l room .number) (settlement w book p l room .place)
+unfolding refusalOf
+settlement-tells w p book l room = by (isRefusal refusal) refl
+  where
+    table : List Row
+    table = settlementTable w (length book) p l room
 
-  -- "write nothing; totals beside a refusal are 0"
+    refusal : Answer
+    refusal = refusalOf w (length book) p l room
+
+    by : (b : Bool) → isRefusal refusal ≡ b → Tells table (settlement w book p l room .number) (settlement w book p l room .place)
+    by true q = rw (settled-by w p book l room q) (table-tells table (table-numbered w (length book) p l room) refusal refl)
+    by false q =
+        rw (settled-accepted w p book l room q)
+        (inl (record { none-broken = unrefused-none table (table-numbered w (length book) p l room) q; number-none = refl; place-none = refl }))
+
+-- a refusal writes nothing, and its totals are 0
+module _ (w p : ℕ) (book l out : List ℕ) (refused : settlement w book p l (length out) .number ≡ 0 → ⊥) where
+  is-refusal : isRefusal (refusalOf w (length book) p l (length out)) ≡ true
+  is-refusal = by (isRefusal (refusalOf w (length book) p l (length out))) refl
+    where
+      by : (b : Bool) → isRefusal (refusalOf w (length book) p l (length out)) ≡ b → isRefusal (refusalOf w (length book) p l (length out)) ≡ true
+      by true q = q
+      by false q = absurd (refused (ap (λ (s : Settlement). s .number) (settled-accepted w p book l (length out) q)))
+
   pub refused-untouched : written w book p l out ≡ out
-  refused-untouched = written-by w p book l out e
+  refused-untouched = written-by w p book l out is-refusal
 
   pub refused-totals : (settlement w book p l (length out) .energy ≡ 0) × (settlement w book p l (length out) .cents ≡ 0)
-  refused-totals = rw (settled-by w p book l (length out) e) (refl, refl)
+  refused-totals = rw (settled-by w p book l (length out) is-refusal) (refl, refl)

@@ -1,16 +1,17 @@
--- The hours of an event as the code holds them are document 01's: three warm-up hours before a morning event, two before an evening
--- event, and then the event's own. They come from rule 13, and lie in the day.
+-- The hours of an event as the code holds them are those of rules 5.1, 5.2 and 5.3: three warm-up hours before a morning event, two before an
+-- evening event, and then the event's own. They come from refusal 13, and lie in the day.
 -- Assumes nothing.
-use Prim.Native.Nat.{ℕ, _-_, _≤_, _<_}
+use Prim.Native.Nat.{ℕ, _-_, _*_, _%_, _≤_, _<_}
 use mathlib.Core.Bool.{Bool, true, false, cond}
 use mathlib.Core.List.{List}
 use mathlib.Core.Logic.{_⊎_, ⊎-elim}
 use mathlib.Core.Path.{_≡_, refl}
 use native.Mathlib.Omega.{arith}
 use lib.Dec.{ltb}
+use lib.ListN.{length}
 use borrow.Author.Tests.{lt-ltb, le-ltb}
 use Rattle.book.proofs.FirstFault.{fault-among}
-use Rattle.book.proofs.RunLaws.{hours-below, run-from, run-below}
+use Rattle.book.proofs.RunLaws.{hours-long, hours-below, run-from, run-below}
 use Rattle.book.specs.Places.{InDay, hoursFrom}
 use Rattle.book.specs.Readings.{firstFault}
 use Rattle.book.specs.Values.{AtPlace}
@@ -54,7 +55,7 @@ module _ (part : List ℕ) (hours : Hours) (inside : HoursIn hours) {f : Fault} 
   pub event-told : f ≡ firstFault part (eventRun hours) → AtPlace InDay f
   event-told e = rw e (fault-among part InDay (eventRun hours) (event-hours hours inside))
 
--- document 01's warm-up hours are hours of the day
+-- the warm-up hours are hours of the day
 pub warm-below : (w : Winter) (day s : ℕ) → s ≤ 20 → Every InDay (warmUp w day s)
 unfolding warmUp
 warm-below w day s b = by (ltb s (credit .evening .start))
@@ -62,6 +63,15 @@ warm-below w day s b = by (ltb s (credit .evening .start))
     by : (m : Bool) → Every InDay (cond m (hoursFrom (s - 5) 3) (hoursFrom (s - 4) 2))
     by true = hours-below (s - 5) 3 (omega arith)
     by false = hours-below (s - 4) 2 (omega arith)
+
+-- 6H/W is a whole number for every event: there are two or three warm-up hours
+pub whole-factor : (w : Winter) (day s h : ℕ) → 6 * h % length (warmUp w day s) ≡ 0
+unfolding warmUp
+whole-factor w day s h = by (ltb s (credit .evening .start))
+  where
+    by : (m : Bool) → 6 * h % length (cond m (hoursFrom (s - 5) 3) (hoursFrom (s - 4) 2)) ≡ 0
+    by true = rw (hours-long (s - 5) 3) (omega arith)
+    by false = rw (hours-long (s - 4) 2) (omega arith)
 
 -- the hours that the code holds are those of the event
 module _ (w : Winter) (day s e : ℕ) (p : Spans s e) where

@@ -1,4 +1,4 @@
--- Laws of the line: what the search's answer and the hours that the code holds mean for what document 01 asks, one law for each way out.
+-- Laws of the line: what the search's answer and the hours that the code holds mean for what an event asks, one law for each way out.
 -- Assumes nothing.
 use Prim.Native.Nat.{ℕ, _≤_, _<_}
 use mathlib.Core.Bool.{Bool, false}

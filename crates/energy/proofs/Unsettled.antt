@@ -10,12 +10,16 @@ use native.Mathlib.Omega.{arith}
 use lib.Dec.{ltb}
 use lib.ListN.{length}
 use borrow.Author.Tests.{ltb-true, ltb-false, le-ltb}
-use Rattle.book.proofs.FirstFault.{Holds, FaultTells, first-found, no-fault}
+use Rattle.book.proofs.FirstFault.{Holds, FaultTells, first-found, no-fault, fault-among}
 use Rattle.book.specs.Readings.{firstFault}
+use Rattle.book.specs.Values.{AtPlace}
 use Rattle.book.specs.declared.values.Fault.the-variants.{Clean, Missing, TooLarge}
 use Rattle.book.specs.declared.values.Fault.{Fault}
+use Rattle.calendar.specs.declared.answers.Winter.{Winter}
 use Rattle.laws.proofs.Every.{Every}
-use Rattle.energy.specs.Asked.{Asked, needed}
+use Rattle.notices.specs.declared.notices.Notice.{Notice}
+use Rattle.references.specs.ReferenceDays.{referenceDays}
+use Rattle.energy.specs.Asked.{Asked, askedWith, askedBy, needed}
 use Rattle.energy.specs.Energy.{energyOf}
 use Rattle.energy.specs.Line.{settled, unsettled, byFault, lineOf}
 use Rattle.energy.specs.declared.events.Event.{Event}
@@ -66,3 +70,22 @@ module _ (book : List ℕ) (q : Asked) where
         five-refs = enough .five-refs;
         all-readings = by-code (firstFault book (needed q)) (enough .told) (sym (ap (λ (x : Event). x .code) (enough .says)) ∙ z);
       }
+
+  -- code and place are small where the needed places are
+  pub line-small : (m : ℕ) → 0 < m → Every (λ (p : ℕ). p < m) (needed q) → (lineOf book q .code ≤ 22) × (lineOf book q .place < m)
+  line-small m some places = by (lineOf book q) line-why
+    where
+      by-fault : (f : Fault) (energy : ℕ) → AtPlace (λ (p : ℕ). p < m) f → (byFault f energy .code ≤ 22) × (byFault f energy .place < m)
+      by-fault Clean energy h = (omega arith, some)
+      by-fault (Missing p) energy h = (omega arith, h)
+      by-fault (TooLarge p) energy h = (omega arith, h)
+
+      by : (e : Event) → Why e → (e .code ≤ 22) × (e .place < m)
+      by e (inl few) = rw (few .says) (omega arith, some)
+      by e (inr enough) =
+          rw (enough .says) (by-fault (firstFault book (needed q)) (energyOf book q) (fault-among book (λ (p : ℕ). p < m) (needed q) places))
+
+-- what is asked by the days that are free is asked with the reference days
+pub asked-is : (w : Winter) (free : ℕ → Bool) (n : Notice) → askedBy w free n ≡ askedWith w n (referenceDays w free (n .day))
+unfolding askedBy
+asked-is w free n = refl

@@ -17,19 +17,23 @@ pub record Asked : Type 0 where
   pub event : List ℕ
   pub refs : List ℕ
 
--- "Warm-up hours: for a morning event s-5, s-4, s-3 (W = 3); for an evening event s-4, s-3 (W = 2).", on any day of any winter
+-- rules 5.1 and 5.2: the warm-up hours of an event that starts at hour s, on any day of any winter
 unfoldable pub warmUp : Winter → ℕ → ℕ → List ℕ
 warmUp w day s = cond (ltb s (credit .evening .start)) (hoursFrom (s - 5) 3) (hoursFrom (s - 4) 2)
 
-unfoldable pub askedBy : Winter → (ℕ → Bool) → Notice → Asked
-askedBy w free n = record {
+-- by a notice and some reference days
+abbrev pub askedWith : Winter → Notice → List ℕ → Asked
+askedWith w n refs = record {
   day = n .day;
   warm = warmUp w (n .day) (n .start);
   event = hoursFrom (n .start) (n .end - n .start);
-  refs = referenceDays w free (n .day);
+  refs = refs;
 }
 
--- "Needed readings are looked at in this order ..: event day, its warm-up hours and then its event hours, ascending; then the reference
--- days, nearest first, each the same way. No other reading is looked at."
+-- by a notice and the days that are free of events
+unfoldable pub askedBy : Winter → (ℕ → Bool) → Notice → Asked
+askedBy w free n = askedWith w n (referenceDays w free (n .day))
+
+-- rule 5.7: the places of the needed readings, in the order in which they are looked at
 unfoldable pub needed : Asked → List ℕ
 needed a = placesOn (a .warm ++ a .event) (a .day ∷ a .refs)

@@ -1,4 +1,4 @@
--- Each figure of document 01 that is marked P holds: one proof over the whole list, by computing both sides.
+-- Each figure of RULES.md holds: one proof over the whole list, by computing both sides.
 -- This is the one place where definitions of other crates are opened, since to compute is the point.
 -- Assumes nothing.
 use mathlib.Core.List.{flatten, map}
@@ -6,6 +6,8 @@ use mathlib.Core.Path.{_≡_, refl}
 use Rattle.book.specs.Places.{hoursFrom, placesOn}
 use Rattle.book.specs.Readings.{firstFault, sumOver}
 use Rattle.book.specs.Values.{faultOf}
+use Rattle.boundary.specs.Calls.{checkCall}
+use Rattle.boundary.specs.Lent.{decoded}
 use Rattle.calendar.specs.Answers.{easterSunday}
 use Rattle.calendar.specs.Easter.{noEasterYear, easterT, easterInBook}
 use Rattle.calendar.specs.Excluded.{among, goodFriday, easterMonday, excluded}
@@ -47,6 +49,8 @@ use Rattle.schedule.specs.ListCheck.{ownRows, listRows, noticeRows, afterNotice
 use Rattle.schedule.specs.Rules.{outsidePeriod, onExcludedDay, barredWeekend, startsBefore, sameBand, overLimit}
 use Rattle.text.specs.Refusals.{valueRows, textTable, textRefusal}
 use Rattle.text.specs.Statement.{settledBytes, toldBytes, statementOf}
+use Rattle.wire.specs.Bytes.{fourBytesAt}
+use Rattle.wire.specs.Lent.{fourBytes, lentBytes}
 use Rattle.figures.specs.CalendarFigures.{alsoFrom, alsoExcluded, calendarFigures}
 use Rattle.figures.specs.EnergyFigures.{sampleDay, sampleBook, sampleList, energyFigures}
 use Rattle.figures.specs.Figure.{Figure}
@@ -65,5 +69,5 @@ unfolding calendarFigures alsoExcluded alsoFrom easterSunday refuse noEasterYear
     shortOutput rowsTo lineAt centsAt sumTo eventAt roundedWorth textFigures bytesIn sampleInput sampleOutput twice statementOf textRefusal textTable
     valueRows toldBytes settledBytes formOf topOf restOf noticesSaid readsFrom readsSaid keyedAt fieldAt fieldFrom digitsFrom endFrom isDigit wordAt wordFrom
     rowAt linesEnd linesSaid eventLineAt headAt readLineAt flatten misplacedIn misplacedBy bookDays bookIn statementLines refusedLines noticeLine
-    bytesOfLines lineBytes fieldBytes decimal digitsIn
+    bytesOfLines lineBytes fieldBytes decimal digitsIn checkCall decoded fourBytesAt fourBytes lentBytes
 figures-hold = refl

@@ -23,11 +23,11 @@ alsoExcluded y = alsoFrom y 0 (days y)
 
 unfoldable pub calendarFigures : List Figure
 calendarFigures =
-    -- "P Easter 2024 is 31 March, 2027 28 March, 2028 16 April."
+    -- rule 1.13: Easter in three years
     figure (given (3 ∷ 31 ∷ [])) (easterSunday 2024)
     ∷ figure (given (3 ∷ 28 ∷ [])) (easterSunday 2027)
     ∷ figure (given (4 ∷ 16 ∷ [])) (easterSunday 2028)
-    -- "P Winter 2026 excludes also days 145 and 148; 2023 also 149; 2027 none."
+    -- rule 1.12: what three winters exclude besides the six
     ∷ figure (given (145 ∷ 148 ∷ [])) (given (alsoExcluded 2026))
     ∷ figure (given (149 ∷ [])) (given (alsoExcluded 2023))
     ∷ figure (given []) (given (alsoExcluded 2027))

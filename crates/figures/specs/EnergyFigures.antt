@@ -23,7 +23,7 @@ sparedWith c = given (sparedOf 3 3 126000 9000 12000 c ∷ [])
 abbrev pub missing : ℕ → List ℕ
 missing n = replicate n missingMark
 
--- the sample's readings of a day: two lines `read=`, three readings from hour 1 and three from hour 6; "Unlisted hours are missing."
+-- the sample's readings of a day: two lines `read=`, three readings from hour 1 and three from hour 6; all other hours are missing (rule 8.9)
 unfoldable pub sampleDay : ℕ → ℕ → List ℕ
 sampleDay a b = missing 1 ++ (replicate 3 a ++ (missing 2 ++ (replicate 3 b ++ missing 15)))
 
@@ -39,12 +39,12 @@ sampleList = 38 ∷ 6 ∷ 9 ∷ []
 
 unfoldable pub energyFigures : List Figure
 energyFigures =
-    -- "P Winter 2026, event on day 34: reference 28, 27, 21, 20, 14."
+    -- rule 5.6: an event on day 34
     figure (given (28 ∷ 27 ∷ 21 ∷ 20 ∷ 14 ∷ [])) (references (34 ∷ 6 ∷ 9 ∷ []) 34)
-    -- "P Day 57: 52, 51, 50, 47, 46; with an event on 51: 52, 50, 47, 46, 45."
+    -- rule 5.6: one on day 57, by itself and with another on day 51
     ∷ figure (given (52 ∷ 51 ∷ 50 ∷ 47 ∷ 46 ∷ [])) (references (57 ∷ 6 ∷ 9 ∷ []) 57)
     ∷ figure (given (52 ∷ 50 ∷ 47 ∷ 46 ∷ 45 ∷ [])) (references (51 ∷ 6 ∷ 9 ∷ 57 ∷ 6 ∷ 9 ∷ []) 57)
-    -- "P H = W = 3, R = 126,000, B = 9,000, A = 12,000: C = 11,000 gives 720,000; C = 10,999 gives 666,018."
+    -- rules 6.8 and 6.9: at the limit, and one Wh past it
     ∷ figure (given (720000 ∷ [])) (sparedWith 11000)
     ∷ figure (given (666018 ∷ [])) (sparedWith 10999)
     ∷ []

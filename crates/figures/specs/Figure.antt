@@ -1,4 +1,4 @@
--- A figure of document 01 on both sides: what the paper says, and what the definitions give.
+-- A figure of RULES.md on both sides: what the page says, and what the definitions give.
 -- Assumes nothing.
 use Rattle.laws.specs.Answer.{Answer}
 

@@ -1,4 +1,4 @@
--- All figures of document 01 that are marked P, as one list, with those beside them that lists and readings can show.
+-- All figures of RULES.md, as one list.
 -- Assumes nothing.
 use mathlib.Core.List.{List, _++_}
 use Rattle.figures.specs.CalendarFigures.{calendarFigures}

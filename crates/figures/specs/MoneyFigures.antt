@@ -16,12 +16,14 @@ numbersOf s = given (s .number ∷ s .place ∷ s .energy ∷ s .cents ∷ [])
 
 unfoldable pub moneyFigures : List Figure
 moneyFigures =
-    -- "P Three lines of 180 at p = 50,000: cents 1, 0, 1."
+    -- rule 7.4: three lines worth half a cent each
     figure (given (1 ∷ 0 ∷ 1 ∷ [])) (given (map (centsAt 50000 (λ (k : ℕ). 180)) (0 ∷ 1 ∷ 2 ∷ [])))
-    -- "P Energy 128,520 at 50,000: 357 (document 004's sample bill)."
+    -- rule 7.3: the sample bill
     ∷ figure (given (357 ∷ [])) (given (roundedWorth 50000 128520 ∷ []))
-    -- the sample's line; "Numbers past the last line are untouched."
+    -- rule 7.6: the sample's line, and a number behind it that stays
     ∷ figure (given (0 ∷ 0 ∷ 81000 ∷ 234 ∷ 7 ∷ [])) (given (written 2026 sampleBook 51967 sampleList (7 ∷ 7 ∷ 7 ∷ 7 ∷ 7 ∷ [])))
-    -- "Empty list: accepted, total 0."
+    -- and what its settlement answers: it is accepted, with these totals
+    ∷ figure (given (0 ∷ 0 ∷ 81000 ∷ 234 ∷ [])) (numbersOf (settlement 2026 sampleBook 51967 sampleList 4))
+    -- rule 7.7: no notices, no totals
     ∷ figure (given (0 ∷ 0 ∷ 0 ∷ 0 ∷ [])) (numbersOf (settlement 2026 sampleBook 51967 [] 0))
     ∷ []

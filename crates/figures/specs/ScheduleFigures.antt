@@ -1,10 +1,12 @@
 -- The figures of the list check, in winter 2026.
 -- Assumes nothing.
-use Prim.Native.Nat.{ℕ, zero, suc}
+use Prim.Native.Nat.{ℕ, zero, suc, _+_, _*_}
 use mathlib.Core.List.{List, [], _∷_, _++_}
-use Rattle.laws.specs.Answer.{Answer}
+use Rattle.boundary.specs.Calls.{checkCall}
+use Rattle.laws.specs.Answer.{Answer, given}
 use Rattle.laws.specs.Table.{accepted, refusalAt}
 use Rattle.schedule.specs.ListCheck.{checkAnswer}
+use Rattle.wire.specs.Lent.{lentBytes}
 use Rattle.figures.specs.Figure.{Figure, figure}
 
 -- a list under a profile
@@ -22,16 +24,19 @@ hundredHours = mornings 30 23 ++ mornings 56 2
 
 unfoldable pub scheduleFigures : List Figure
 scheduleFigures =
-    -- "P Profile 1: 6-10 stands, 6-11 is 13; the same notice twice is 15; 6-7 then 8-9 is 16."
+    -- profile 1, by rules 4.12, 4.14 and 4.15
     figure accepted (checked 1 (38 ∷ 6 ∷ 10 ∷ []))
     ∷ figure (refusalAt 13 0) (checked 1 (38 ∷ 6 ∷ 11 ∷ []))
     ∷ figure (refusalAt 15 1) (checked 1 (38 ∷ 6 ∷ 10 ∷ 38 ∷ 6 ∷ 10 ∷ []))
     ∷ figure (refusalAt 16 1) (checked 1 (38 ∷ 6 ∷ 7 ∷ 38 ∷ 8 ∷ 9 ∷ []))
-    -- "P Profile 2: 6-8 is 14, 9-10 is 13."
+    -- profile 2, by rules 4.12 and 4.13
     ∷ figure (refusalAt 14 0) (checked 2 (38 ∷ 6 ∷ 8 ∷ []))
     ∷ figure (refusalAt 13 0) (checked 2 (38 ∷ 9 ∷ 10 ∷ []))
-    -- "Empty list: accepted .. 100 hours stand; one more is 18."
+    -- no notices, then as many hours as a winter has, then one more: rules 4.1 and 4.16
     ∷ figure accepted (checked 1 [])
     ∷ figure accepted (checked 1 hundredHours)
     ∷ figure (refusalAt 18 25) (checked 1 (hundredHours ++ (58 ∷ 6 ∷ 7 ∷ [])))
+    -- from C, by the bytes of a list: one that stands, and one with a notice twice, 15 at index 1
+    ∷ figure (given (0 ∷ [])) (given (checkCall 2026 1 (lentBytes (38 ∷ 6 ∷ 9 ∷ [])) ∷ []))
+    ∷ figure (given ((65536 * 15 + 1) ∷ [])) (given (checkCall 2026 1 (lentBytes (38 ∷ 6 ∷ 9 ∷ 38 ∷ 6 ∷ 9 ∷ [])) ∷ []))
     ∷ []

@@ -1,19 +1,21 @@
--- The sample of document 01: its input and its output, byte by byte, and a text that is refused.
+-- The sample of rule 8.16: its text and its statement, byte by byte, and a text that is refused.
 -- Assumes nothing.
 use Prim.Native.Nat.{ℕ}
 use Prim.Native.String.{String}
 use mathlib.Core.List.{List, [], _∷_, _++_}
 use Rattle.laws.specs.Answer.{Answer, given}
 use Rattle.numerals.specs.Words.{bytesOf, lineEnd}
+use Rattle.laws.specs.Table.{accepted, refusalAt}
+use Rattle.text.specs.Refusals.{textRefusal}
 use Rattle.text.specs.Statement.{statementOf}
 use Rattle.figures.specs.Figure.{Figure, figure}
 
--- "Lines end in byte 10"
+-- lines as bytes, each with the byte that ends it
 unfoldable pub bytesIn : List String → List ℕ
 bytesIn [] = []
 bytesIn (x ∷ xs) = bytesOf x ++ (lineEnd ∷ bytesIn xs)
 
--- "Input:"
+-- the text
 unfoldable pub sampleInput : List String
 sampleInput =
     "winter=2026"
@@ -35,11 +37,11 @@ sampleInput =
     ∷ "read=38,6,1000,1000,1000"
     ∷ []
 
--- "Output:"
+-- its statement
 unfoldable pub sampleOutput : List String
 sampleOutput = "winter=2026" ∷ "price=51967" ∷ "events=1" ∷ "line=38,6,9,0,0,81000,234" ∷ "energy=81000" ∷ "total=234" ∷ []
 
--- a notice that a bounced contact gave twice
+-- a notice that a bounced contact gave twice (rule 8.16)
 unfoldable pub twice : List String
 twice = "winter=2026" ∷ "price=51967" ∷ "events=2" ∷ "event=38,6,9" ∷ "event=38,6,9" ∷ "reads=0" ∷ []
 
@@ -50,6 +52,9 @@ printedOf text = given (statementOf (bytesIn text))
 unfoldable pub textFigures : List Figure
 textFigures =
     figure (given (bytesIn sampleOutput)) (printedOf sampleInput)
-    -- "the same notice twice is 15", at the second notice, whose index is 1
+    -- rule 8.13: the second notice is refused, whose index is 1
     ∷ figure (given (bytesIn ("refused=15,1" ∷ []))) (printedOf twice)
+    -- the sample is accepted, and the other refused
+    ∷ figure accepted (textRefusal (bytesIn sampleInput))
+    ∷ figure (refusalAt 15 1) (textRefusal (bytesIn twice))
     ∷ []

@@ -1,1 +1,1 @@
-// The figures that document 01 marks P, on both sides: what the paper says and what the definitions give. It has no code.
+// The figures of RULES.md, on both sides: what the page says and what the definitions give. It has no code.

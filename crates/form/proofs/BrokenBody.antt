@@ -133,7 +133,7 @@ module _ (s : List ℕ) (never : Held s → ⊥) {winter price n at : ℕ} (top 
           let few : i ≤ length (b .document .reads) = omega (arith, front .same, stop .fewer) in
           lines-never (reads s) (b .rest) (b .document .reads) r (n + 4 + 1) (b .writable .reads) i k few (stop .broken) (front .after))
 
-      -- "Nothing follows": values with these lines have no line more
+      -- rule 8.3: values with these lines have no line more
       pub no-end : (k t : ℕ) → linesEnd (readLineAt s) m r (n + 4 + 1) ≡ lines.Whole t → k ≡ n + 4 + 1 + m → FirstBrokenLine s k
       no-end k t whole e =
           next-breaks s (past-top (n + suc m)) k never (omega arith) (reads-begin m t (omega arith) whole)

@@ -8,7 +8,7 @@ use native.Mathlib.Omega.{arith}
 use lib.ListN.{length}
 use lib.Seq.{sets, length-sets}
 use Rattle.notices.specs.Notices.{noticeNumbers}
-use Rattle.numerals.proofs.Stores.{sets-append}
+use Rattle.laws.proofs.Stores.{sets-append}
 use Rattle.numerals.specs.declared.fields.Step.the-variants as step
 use Rattle.form.specs.Lines.{eventLineAt, linesEnd, linesSaid}
 use Rattle.form.specs.declared.lines.Lines.{Lines}

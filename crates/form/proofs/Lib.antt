@@ -9,6 +9,7 @@ pub mod Formed
 pub mod LineKinds
 pub mod LineLaws
 pub mod LinesInText
+pub mod Misplaced
 pub mod NoneLeftOut
 pub mod OneLine
 pub mod OneOutcome

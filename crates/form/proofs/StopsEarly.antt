@@ -1,6 +1,6 @@
--- "A text that stops early is refused at its first missing or unfinished line." Proved by counting line ends: such a text has one for each
--- of its whole lines, so that no further line stands in it; and it is the text of no values, since values of which one's text starts with
--- the other's have equally many lines.
+-- Rule 8.6 of a text that ends too soon: it is refused at the line that it has only begun or lacks first. Proved by counting line ends: such a
+-- text has one for each of its whole lines, so that no further line stands in it; and it is the text of no values, since values of which one's
+-- text starts with the other's have equally many lines.
 -- Assumes nothing.
 use Prim.Native.Nat.{ℕ, suc, _+_, _-_, _≤_, _<_}
 use mathlib.Core.List.{List, [], _∷_, _++_, append-assoc, append-nil, map}

@@ -78,7 +78,7 @@ module _ (d : Document) where
   pub at-reads : drop readsAt (textOf d) ≡ readsPart ++ []
   at-reads = past (textOf d) countedPart readsPart countedAt at-counted ∙ sym (append-nil readsPart)
 
-  -- "Nothing follows."
+  -- rule 8.3: the text ends there
   pub at-end : readsAt + length readsPart ≡ length (textOf d)
   at-end = omega (
     arith,

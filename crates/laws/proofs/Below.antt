@@ -4,7 +4,7 @@
 use Prim.Native.Nat.{ℕ, zero, suc, _+_, _-_, _≤_, _<_}
 use mathlib.Core.Bool.{Bool, true, false, cond, _&&_}
 use mathlib.Core.Logic.{⊎-elim}
-use mathlib.Core.Path.{_≡_, subst, sym}
+use mathlib.Core.Path.{_≡_, refl, subst, sym}
 use native.Mathlib.Nat.{not-suc-le-zero, le-of-suc-le-suc, eq-or-lt-of-le}
 use native.Mathlib.Omega.{arith}
 use lib.Dec.{T}
@@ -39,3 +39,11 @@ from f lo n t k h l =
 abbrev pub howMany : (ℕ → Bool) → ℕ → ℕ
 howMany f zero = 0
 howMany f (suc n) = cond (f n) (suc (howMany f n)) (howMany f n)
+
+-- where tests say the same, as many pass one as pass the other; by the count itself, since it computes to a large term
+pub as-many : (f g : ℕ → Bool) (n m : ℕ) → ((k : ℕ) → k < n → f k ≡ g k) → m ≤ howMany g n → m ≤ howMany f n
+as-many f g n m e h = rw (same n e) h
+  where
+    same : (n : ℕ) → ((k : ℕ) → k < n → f k ≡ g k) → howMany f n ≡ howMany g n
+    same zero e = refl
+    same (suc n) e = rw (e n (omega arith), same n (λ k h. e k (omega arith)))

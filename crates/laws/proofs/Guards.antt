@@ -1,7 +1,8 @@
 -- Guards: what the test of a callee's result tells of what the callee computes, and of the parts of a test.
 -- Assumes nothing.
-use mathlib.Core.Bool.{Bool, true, false, _&&_, _||_, and-eq-true-iff}
-use mathlib.Core.Path.{_≡_, sym, _∙_}
+use mathlib.Core.Bool.{Bool, true, false, Bool·beq, _&&_, _||_, and-eq-true-iff}
+use mathlib.Core.Logic.{_↔_}
+use mathlib.Core.Path.{_≡_, refl, sym, _∙_}
 use mathlib.Mathlib.Data.Bool.Basic.{or-eq-false-eq-eq-false-and-eq-false}
 
 -- the result r of a callee that ensures r ≡ s came out as t
@@ -17,3 +18,10 @@ neither a b e = or-eq-false-eq-eq-false-and-eq-false a b .0 e
 
 pub no-fault : (a b : Bool) → a ≡ false → b ≡ false → (a || b) ≡ false
 no-fault a b p q = or-eq-false-eq-eq-false-and-eq-false a b .1 (p, q)
+
+-- two tests that came out alike
+pub same-bits : (a b : Bool) → (Bool·beq a b ≡ true) ↔ (a ≡ b)
+same-bits true true = (λ e. refl, λ e. refl)
+same-bits true false = (λ e. sym e, λ e. sym e)
+same-bits false true = (λ e. e, λ e. e)
+same-bits false false = (λ e. refl, λ e. refl)

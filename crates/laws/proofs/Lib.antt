@@ -9,4 +9,5 @@ pub mod Same
 pub mod Stores
 pub mod SumLaws
 pub mod Tables
+pub mod Tells
 pub mod Walks

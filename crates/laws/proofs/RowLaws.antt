@@ -102,7 +102,7 @@ rows-same {w} {rowAt} {rowAt′} a b (suc n) k h e =
 
 -- a loop that writes one number a turn
 module _ {numberAt : ℕ → ℕ} where
-  one-wide : Wide 1 (λ (k : ℕ). numberAt k ∷ [])
+  pub one-wide : Wide 1 (λ (k : ℕ). numberAt k ∷ [])
   one-wide = record { long = λ k. refl }
 
   module _ {came : List ℕ} {n : ℕ} {out : List ℕ} {k : ℕ} (h : Filled 1 (λ (i : ℕ). numberAt i ∷ []) came n out k) where

@@ -42,3 +42,10 @@ pub take-replicate : (n m a : ℕ) → n ≤ m → take n (replicate m a) ≡ re
 take-replicate zero m a h = refl
 take-replicate (suc n) zero a h = absurd (omega arith)
 take-replicate (suc n) (suc m) a h = ap (λ (l : List ℕ). a ∷ l) (take-replicate n m a (omega arith))
+
+-- stores in two parts
+pub sets-append : (xs ys l : List ℕ) (i : ℕ) → sets l i (xs ++ ys) ≡ sets (sets l i xs) (i + length xs) ys
+sets-append [] ys l i = let e : i + 0 ≡ i = omega arith in rw e
+sets-append (a ∷ xs) ys l i =
+    let e : i + suc (length xs) ≡ suc i + length xs = omega arith in
+    rw e (sets-append xs ys (set l i a) (suc i))

@@ -99,10 +99,6 @@ unfolding firstOf
 first-broken [] e = absurd (true≢false (sym e))
 first-broken (r ∷ rows) e = here-or-later r rows (first-broken rows) (r .broken) refl e
 
--- where all rows have one place, it is the place that is answered
-pub place-of-all : (k : ℕ) {rows : List Row} → Every (λ (r : Row). r .place ≡ k) rows → (b : FirstBroken rows) → b .place ≡ k
-place-of-all k h b = right (λ (r : Row). r .place ≡ k) (b .before) (row (b .number) (b .place) true ∷ b .after) (rw (b .rows-are) at h) .0
-
 -- a table in two parts: a first part that refuses decides, past one that is kept the second does, and what they answer is all that counts
 stops-here : (r : Row) (rows more : List Row) → (isRefusal (firstOf rows) ≡ true → firstOf rows ≡ firstOf (rows ++ more))
     → (b : Bool) → isRefusal (refuse b (toldBy r) (firstOf rows)) ≡ true → refuse b (toldBy r) (firstOf rows) ≡ refuse b (toldBy r) (firstOf (rows ++ more))

@@ -1,29 +1,20 @@
--- Laws of a table that has some rows for each index, one index after another: no row is broken exactly when none of any index is, what it
--- refuses is the first broken row of the first index that has one, and what a loop over the indices needs. The loop's invariant: the rows
--- before index k are looked at, and none is broken.
+-- Laws of a table that has some rows for each index, one index after another: no row is broken exactly when none of any index is, and what a
+-- loop over the indices needs. The loop's invariant: the rows before index k are looked at, and none is broken.
 -- Assumes nothing.
 use Prim.Native.Nat.{ℕ, zero, suc, _+_, _≤_, _<_}
-use mathlib.Core.Bool.{Bool, true, false, true≢false}
+use mathlib.Core.Bool.{true, false}
 use mathlib.Core.List.{List}
 use mathlib.Core.Logic.{⊎-elim, _↔_}
-use mathlib.Core.Path.{_≡_, refl, sym, ap, _∙_}
+use mathlib.Core.Path.{_≡_, sym, ap, _∙_}
 use native.Mathlib.Nat.{eq-or-lt-of-le, le-of-suc-le-suc}
 use native.Mathlib.Numerals.{add-one}
 use native.Mathlib.Omega.{arith}
 use Rattle.laws.specs.Answer.{Answer}
 use Rattle.laws.specs.Rows.{rowsTo}
-use Rattle.laws.specs.Table.{accepted, refusalAt, Row, firstOf, isRefusal}
+use Rattle.laws.specs.Table.{accepted, Row, firstOf, isRefusal}
 use Rattle.laws.proofs.Every.{joined}
 use Rattle.laws.proofs.RowLaws.{rows-none, rows-more, each-row, all-rows}
-use Rattle.laws.proofs.Tables.{Numbered, NoneBroken, FirstBroken, unrefused-none, none-accepted, first-broken, part-stops, part-goes}
-
--- the first index of n that has a broken row: those before it have none, and its first broken row is what is answered
-pub record FirstAt (rowsAt : ℕ → List Row) (n : ℕ) : Type 0 where
-  pub index : ℕ
-  pub below : index < n
-  pub kept-before : (k : ℕ) → k < index → NoneBroken (rowsAt k)
-  pub broken : FirstBroken (rowsAt index)
-  pub answer : firstOf (rowsTo rowsAt n) ≡ refusalAt (broken .number) (broken .place)
+use Rattle.laws.proofs.Tables.{Numbered, NoneBroken, unrefused-none, none-accepted, part-stops, part-goes}
 
 -- of n indices those before index k are looked at, and no row of theirs is broken
 pub record Walked (rowsAt : ℕ → List Row) (n k : ℕ) : Type 0 where
@@ -55,27 +46,6 @@ module _ (rowsAt : ℕ → List Row) where
   module _ (numbered : (k : ℕ) → Numbered (rowsAt k)) where
     pub walk-numbered : (n : ℕ) → Numbered (rowsTo rowsAt n)
     walk-numbered n = all-rows (λ (r : Row). 1 ≤ r .number) rowsAt n (λ k h. numbered k)
-
-    -- what is refused is the first broken row of the first index that has one
-    pub first-at : (n : ℕ) → isRefusal (table n) ≡ true → FirstAt rowsAt n
-    first-at zero e = absurd (true≢false (sym e ∙ ap isRefusal (none-accepted (rowsTo rowsAt 0) (rw (rows-none rowsAt) tt))))
-    first-at (suc n) e = by (isRefusal (table n)) refl (first-at n)
-      where
-        by : (b : Bool) → isRefusal (table n) ≡ b → (isRefusal (table n) ≡ true → FirstAt rowsAt n) → FirstAt rowsAt (suc n)
-        by true q before =
-            let t = before q in
-            record {
-              index = t .index;
-              below = omega (arith, t .below);
-              kept-before = t .kept-before;
-              broken = t .broken;
-              answer = sym (more-stops n q) ∙ t .answer;
-            }
-        by false q before =
-            let none = unrefused-none (rowsTo rowsAt n) (walk-numbered n) q in
-            let here = more-goes n none in
-            let b = first-broken (rowsAt n) (ap isRefusal here ∙ e) in
-            record { index = n; below = omega arith; kept-before = none-iff-each n .0 none; broken = b; answer = sym here ∙ b .answer }
 
 -- a loop over the indices: before the first turn, after a turn that does not refuse, and the two ways out
 module _ {rowsAt : ℕ → List Row} {n : ℕ} where

@@ -1,5 +1,4 @@
--- An answer as document 01 has it on paper: a refusal number, 0 if there is none, and the values beside it.
--- Document 01: "For an answer that is an enum, a definition provides this paper's number and values for each of the enum's cases."
+-- An answer on paper, rule 4.25: a refusal number, 0 if there is none, and the values beside it. What a call answers by cases has both for each.
 -- Assumes nothing.
 use Prim.Native.Nat.{ℕ}
 use mathlib.Core.Bool.{Bool, true, false}
@@ -9,11 +8,11 @@ pub record Answer : Type 0 where
   pub number : ℕ
   pub values : List ℕ
 
--- "An accepted call's number and place are 0."
+-- rule 4.1: an accepted call's number is 0
 abbrev pub given : List ℕ → Answer
 given vs = record { number = 0; values = vs }
 
--- a refusal has its number and no values
+-- a refusal has its number and no values (rule 4.25)
 abbrev pub refusal : ℕ → Answer
 refusal n = record { number = n; values = [] }
 

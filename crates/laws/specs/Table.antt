@@ -8,11 +8,11 @@ use mathlib.Core.List.{List, [], _∷_}
 use lib.Dec.{eqb}
 use Rattle.laws.specs.Answer.{Answer, refuse}
 
--- "An accepted call's number and place are 0."
+-- rule 4.1: number and place of an accepted call
 abbrev pub accepted : Answer
 accepted = record { number = 0; values = 0 ∷ [] }
 
--- a refusal with its place
+-- a refusal with its place (rule 4.1)
 abbrev pub refusalAt : ℕ → ℕ → Answer
 refusalAt n place = record { number = n; values = place ∷ [] }
 
@@ -28,7 +28,7 @@ row n place b = record { number = n; place = place; broken = b }
 abbrev pub toldBy : Row → Answer
 toldBy r = refusalAt (r .number) (r .place)
 
--- the first row that is broken decides
+-- the first row that is broken decides (rule 4.1)
 unfoldable pub firstOf : List Row → Answer
 firstOf [] = accepted
 firstOf (r ∷ rows) = refuse (r .broken) (toldBy r) (firstOf rows)

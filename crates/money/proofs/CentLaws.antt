@@ -9,7 +9,8 @@ use Rattle.laws.proofs.SumLaws.{sum-none, sum-next, sum-same, sum-run, run-firs
 use Rattle.laws.specs.Sums.{sumTo, runOf}
 use Rattle.money.specs.Cents.{centsAt}
 use Rattle.money.specs.Worth.{centParts, exactWorth, roundedWorth}
-use Rattle.money.proofs.WorthLaws.{Near, NearHalf, worth-zero, worth-grows, between-near, first-near}
+use Rattle.money.specs.Near.{Near, NearHalf}
+use Rattle.money.proofs.WorthLaws.{worth-zero, worth-grows, between-near, first-near}
 
 module _ (p : ℕ) (energyAt : ℕ → ℕ) where
   -- no cents are negative: the worth with an energy is what it was before, and the energy's cents

@@ -5,6 +5,7 @@ use Prim.Native.Nat.{ℕ, _+_, _-_, _*_, _≤_, _<_}
 use mathlib.Core.Path.{_≡_, refl}
 use native.Mathlib.Nat.{add-mul, zero-mul, mul-le-mul}
 use native.Mathlib.Omega.{arith}
+use Rattle.money.specs.Near.{Near, NearHalf}
 use Rattle.money.specs.Price.{highestPrice}
 use Rattle.money.specs.Worth.{centParts, exactWorth, roundedWorth, mostEnergy}
 
@@ -26,16 +27,6 @@ worth-zero p = rw zero-mul refl
 pub worth-grows : (p s e : ℕ) → roundedWorth p s ≤ roundedWorth p (s + e)
 unfolding roundedWorth
 worth-grows p s e = rw add-mul (omega arith)
-
--- a and b differ by less than d
-pub record Near (a b d : ℕ) : Type 0 where
-  pub above : a < b + d
-  pub below : b < a + d
-
--- a and b differ by at most half of d
-pub record NearHalf (a b d : ℕ) : Type 0 where
-  pub above : 2 * a ≤ 2 * b + d
-  pub below : 2 * b ≤ 2 * a + d
 
 pub between-near : (p s e : ℕ) → Near (centParts * (roundedWorth p (s + e) - roundedWorth p s)) (exactWorth p e) centParts
 unfolding roundedWorth

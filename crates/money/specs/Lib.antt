@@ -1,3 +1,4 @@
 pub mod Price
 pub mod Worth
 pub mod Cents
+pub mod Near

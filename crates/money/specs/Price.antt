@@ -7,6 +7,6 @@ use lib.Dec.{ltb}
 abbrev pub highestPrice : ℕ
 highestPrice = 1000000
 
--- "3: price outside 1..1,000,000"
+-- rules 4.5 and 7.1: 3, no price is so low or so high
 unfoldable pub badPrice : ℕ → Bool
 badPrice p = ltb p 1 || ltb highestPrice p

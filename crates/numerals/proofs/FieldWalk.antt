@@ -17,7 +17,7 @@ use Rattle.numerals.specs.Put.{Put, endBefore, fieldRoom, noRoom, linePu
 use Rattle.numerals.specs.Words.{comma, lineEnd}
 use Rattle.numerals.proofs.LineLaws.{numberLine, numberBytes, fields-last, fields-more, line-is}
 use Rattle.numerals.proofs.PutLaws.{put-length, put-same}
-use Rattle.numerals.proofs.Stores.{sets-append}
+use Rattle.laws.proofs.Stores.{sets-append}
 
 none-bytes : numberBytes [] ≡ []
 unfolding fieldBytes

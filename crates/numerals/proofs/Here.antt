@@ -30,7 +30,7 @@ here-then {s} {a} {b} {at} x y =
       ends = omega (arith, length-append a b);
     }
 
--- "Nothing follows": bytes that end where the text ends are the whole text
+-- bytes that end where the text ends are the whole text
 pub here-whole : {s a : List ℕ} → Here s 0 a (length s) → s ≡ a
 here-whole {s} {a} x =
     let none : length (x .rest) ≤ 0 = omega (arith, ap length (x .split), length-append a (x .rest)) in

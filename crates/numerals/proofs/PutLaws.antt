@@ -16,7 +16,7 @@ use Rattle.numerals.specs.Put.{Put, endBefore, fieldRoom, noRoom, linePu
 use Rattle.numerals.specs.Words.{comma, lineEnd}
 use Rattle.numerals.proofs.DecimalLaws.{decimal-one, decimal-more}
 use Rattle.numerals.proofs.LineLaws.{numberLine, numberBytes, fields-last, fields-more, line-is, lines-none, lines-one, lines-more, lines-append}
-use Rattle.numerals.proofs.Stores.{sets-append}
+use Rattle.laws.proofs.Stores.{sets-append}
 
 put-byte : (l : List ℕ) (i a : ℕ) → Put l i (a ∷ []) (i + 1) (set l i a)
 put-byte l i a = record { ends = refl; holds = refl }

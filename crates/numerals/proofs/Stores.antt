@@ -1,7 +1,7 @@
--- Stores in a row: in two parts, past the end of a slice, and one by one as a loop makes them.
+-- Stores in a row: past the end of a slice, and one by one as a loop makes them.
 -- Assumes nothing.
-use Prim.Native.Nat.{ℕ, suc, _+_, _≤_, _<_}
-use mathlib.Core.List.{List, [], _∷_, _++_}
+use Prim.Native.Nat.{ℕ, suc, _≤_, _<_}
+use mathlib.Core.List.{List, [], _∷_}
 use mathlib.Core.Logic.{⊎-elim}
 use mathlib.Core.Path.{_≡_, refl, sym, _∙_}
 use native.Mathlib.Numerals.{add-one}
@@ -11,13 +11,6 @@ use lib.Seq.{sets, set-out}
 use borrow.Author.Tests.{lt-ltb, le-ltb}
 use Rattle.laws.proofs.Order.{either-order}
 use Rattle.numerals.specs.Rows.{nextIndex}
-
--- in two parts
-pub sets-append : (xs ys l : List ℕ) (i : ℕ) → sets l i (xs ++ ys) ≡ sets (sets l i xs) (i + length xs) ys
-sets-append [] ys l i = let e : i + 0 ≡ i = omega arith in rw e
-sets-append (a ∷ xs) ys l i =
-    let e : i + suc (length xs) ≡ suc i + length xs = omega arith in
-    rw e (sets-append xs ys (set l i a) (suc i))
 
 -- stores past the end of a slice are left out
 pub sets-out : (vs l : List ℕ) (k : ℕ) → length l ≤ k → sets l k vs ≡ l

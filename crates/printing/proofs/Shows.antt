@@ -1,14 +1,14 @@
 -- What is printed shows its numbers: the front of the output is the statement or the line, the numbers that stand in it are those that were to
 -- be printed, and so equal statements come from equal numbers.
 -- Assumes nothing.
-use Prim.Native.Nat.{ℕ, zero, suc, _*_, _<_}
+use Prim.Native.Nat.{ℕ, zero, suc, _+_, _*_, _<_}
 use mathlib.Core.Bool.{Bool, true, false}
 use mathlib.Core.List.{List, [], _∷_, _++_}
 use mathlib.Core.Path.{_≡_, refl, sym, ap, _∙_}
-use lib.ListN.{length, take, drop}
-use lib.Seq.{take-at}
+use lib.ListN.{length, take, drop, getD}
+use lib.Seq.{take-at, getD-append-add}
 use Rattle.laws.proofs.Every.{Every, joined}
-use Rattle.laws.proofs.RowLaws.{Wide, rows-none, rows-more, rows-long, rows-same, parts-same, all-rows}
+use Rattle.laws.proofs.RowLaws.{Wide, rows-none, rows-more, rows-long, row-in, rows-same, parts-same, all-rows}
 use Rattle.laws.specs.Rows.{rowsTo}
 use Rattle.notices.specs.Notices.{countOf}
 use Rattle.numerals.specs.Lines.{Line, line}
@@ -75,6 +75,29 @@ module _ (w p : ℕ) (l out : List ℕ) (energy cents : ℕ) where
   unfolding statementLines
   statement-numbers =
       read-back (statementLines w p l out energy cents) statement-plain ∙ simp (numbers-one, numbers-more, numbers-append, number-back)
+
+-- what stands at an index of these numbers: number j of line k, and behind the lines the totals
+module _ (w p : ℕ) (l out : List ℕ) (energy cents : ℕ) where
+  abbrev shows : ℕ → ℕ
+  shows i = getD (shownNumbers w p l out energy cents) i 0
+
+  abbrev ofLines : List ℕ
+  ofLines = numbersOfLines (noticeLines l out (countOf l))
+
+  behind-head : (i : ℕ) → shows (3 + i) ≡ getD (ofLines ++ (energy ∷ cents ∷ [])) i 0
+  behind-head i = getD-append-add (w ∷ p ∷ countOf l ∷ []) (ofLines ++ (energy ∷ cents ∷ [])) i 0
+
+  pub shown-line : (k j : ℕ) → k < countOf l → j < 7 → shows (3 + (7 * k + j)) ≡ getD (numbersAt l out k) j 0
+  unfolding noticeLine
+  shown-line k j h b =
+      behind-head (7 * k + j)
+      ∙ rw (sevens l out (countOf l)) (row-in (seven-wide l out) (energy ∷ cents ∷ []) (countOf l) k j h b)
+      ∙ ap (λ (ns : List ℕ). getD ns j 0) (numbers-back (numbersAt l out k))
+
+  pub shown-total : (j : ℕ) → shows (3 + (7 * countOf l + j)) ≡ getD (energy ∷ cents ∷ []) j 0
+  shown-total j =
+      behind-head (7 * countOf l + j)
+      ∙ rw (← sevens-long l out (countOf l)) (getD-append-add ofLines (energy ∷ cents ∷ []) j 0)
 
 module _ (l l′ out out′ : List ℕ) where
   -- equal numbers of n notices are equal notice by notice

@@ -2,6 +2,7 @@
 mod calendar_calls;
 mod event_calls;
 mod mask_calls;
+mod text_calls;
 
 pub use calendar_calls::probe_book_day;
 pub use calendar_calls::probe_date;
@@ -16,3 +17,4 @@ pub use event_calls::probe_event_fault;
 pub use mask_calls::probe_event_end;
 pub use mask_calls::probe_event_start;
 pub use mask_calls::probe_mask;
+pub use text_calls::probe_statement;

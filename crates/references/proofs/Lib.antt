@@ -1,3 +1,4 @@
+pub mod FiveFound
 pub mod FoundLaws
 pub mod KindLaws
 pub mod Nearest

@@ -11,11 +11,11 @@ use Rattle.calendar.specs.Weekdays.{weekend}
 use Rattle.calendar.specs.declared.answers.Winter.{Winter}
 use Rattle.references.specs.declared.search.Refs.{Refs}
 
--- which days carry "no event at any hour", by the masks of all days; the masks enter the rules here and nowhere else
+-- rule 5.5: the days without an event, by the masks of all days; the masks enter the rules here and nowhere else
 unfoldable pub freeIn : List ℕ → ℕ → Bool
 freeIn masks d = eqb (getD masks d 0) 0
 
--- a day "of its kind (weekday or weekend)", the event day's, that is free of events and "not excluded"
+-- rule 5.4: a day that serves an event of another day
 unfoldable pub serves : Winter → (ℕ → Bool) → ℕ → ℕ → Bool
 serves w free day d = Bool·beq (weekend w d) (weekend w day) && free d && not (excluded w d)
 
@@ -23,12 +23,12 @@ serves w free day d = Bool·beq (weekend w d) (weekend w day) && free d && not (
 abbrev pub withDay : Bool → ℕ → List ℕ → List ℕ
 withDay b d ds = cond b (d ∷ ds) ds
 
--- the days before d that pass a test, nearest first
+-- the days before d that pass a test, nearest first (rule 5.6)
 unfoldable pub before : (ℕ → Bool) → ℕ → List ℕ
 before ok zero = []
 before ok (suc d) = withDay (ok d) d (before ok d)
 
--- "the five nearest days before the event day"; fewer where there are not five
+-- rule 5.6: five at most, the nearest first
 unfoldable pub referenceDays : Winter → (ℕ → Bool) → ℕ → List ℕ
 referenceDays w free day = take 5 (before (serves w free day) day)
 

@@ -41,7 +41,7 @@ fn past_events(masks: &[u32; 152], day: u32) -> u32
     0
 }
 
-// The five nearest days before the event day that serve, or as many as there are. It stops at the fifth.
+// The reference days of an event (rule 5.6), or as many as there are. It stops at the fifth.
 fn nearest_before(w: Winter, event: Kind, masks: &[u32; 152], day: u32) -> Refs
     requires { ⌜ OnDay w day event ⌝ }
     ensures { λ r. ⌜ r ≡ refsOf (referenceDays w (freeIn (now (masks .entry))) day) ⌝ }

@@ -15,7 +15,7 @@ use Rattle.calendar.specs.Excluded.{excluded}
 use Rattle.calendar.specs.Weekdays.{weekend}
 use Rattle.dates.specs.Winters.{days}
 use Rattle.calendar.specs.Days.{inPeriod}
-use Rattle.laws.proofs.Guards.{both, neither, no-fault}
+use Rattle.laws.proofs.Guards.{both, neither, no-fault, same-bits}
 use Rattle.notices.proofs.HourLaws.{InBand}
 use Rattle.notices.specs.Notices.{hoursOf}
 use Rattle.notices.specs.declared.notices.Notice.{Notice}
@@ -61,12 +61,6 @@ unless-test false b h = refl
 not-so : (x : Bool) → (x ≡ true → ⊥) → x ≡ false
 not-so true h = absurd (h refl)
 not-so false h = refl
-
-same-bits : (a b : Bool) → (Bool·beq a b ≡ true) ↔ (a ≡ b)
-same-bits true true = (λ e. refl, λ e. refl)
-same-bits true false = (λ e. sym e, λ e. sym e)
-same-bits false true = (λ e. e, λ e. e)
-same-bits false false = (λ e. refl, λ e. refl)
 
 -- a notice by itself, rule by rule
 

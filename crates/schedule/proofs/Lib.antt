@@ -1,7 +1,7 @@
 pub mod Accepted
 pub mod Bounds
-pub mod FirstRefusal
 pub mod Lawful
+pub mod PassedAll
 pub mod RuleLaws
 pub mod RuleNumbers
 pub mod Standing

@@ -96,8 +96,7 @@ module _ (w : ℕ) (f : Figures) (ok : Banded f) where
 pub accepted-standing : (w : ℕ) (p : Profile) (l : List ℕ) → checkAnswer w (profileNumber p) l ≡ accepted → Standing w (figuresOf p) l
 accepted-standing w p l e = lawful-standing w (figuresOf p) (banded p) l (accepted-iff-lawful w p l .0 e)
 
--- "Document 003 also asks for 7 hours between events; profile 2's bands and lengths already force that": from the end of one event to
--- the start of any later one
+-- rule 3.8: an event is over seven hours before any later one starts
 pub seven-hours-apart : (w : ℕ) (l : List ℕ) → checkAnswer w 2 l ≡ accepted → (i j : ℕ) → i < j → j < countOf l
     → 24 * noticeAt l i .day + noticeAt l i .end + 7 ≤ 24 * noticeAt l j .day + noticeAt l j .start
 seven-hours-apart w l e i j a b =

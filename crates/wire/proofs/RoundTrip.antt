@@ -1,5 +1,4 @@
--- What is written reads back: of a 64-bit number's eight bytes the low four and the high four, each read as a 32-bit number, give it again,
--- and so do those at its place in the output.
+-- What is written reads back: a 64-bit number's eight bytes give it again, and so do those at its place in the output.
 -- Assumes nothing.
 use Prim.Native.Nat.{ℕ, zero, suc, _+_, _*_, _/_, _%_, _^_, _≤_, _<_}
 use mathlib.Core.List.{List, _++_}
@@ -10,17 +9,8 @@ use native.Mathlib.Omega.{arith}
 use lib.ListN.{length, getD, drop, List·getD-append}
 use lib.Seq.{getD-append-add}
 use Rattle.laws.proofs.RowLaws.{rows-more}
-use Rattle.wire.specs.Bytes.{fourBytesAt, eightBytes, bytesTo, writtenCount, bytesWritten}
+use Rattle.wire.specs.Bytes.{fourBytesAt, eightBytesAt, eightBytes, bytesTo}
 use Rattle.wire.proofs.WriteLaws.{bytes-long}
-
--- a number of four bytes has 32 bits
-pub number-small : (bytes : List ℕ) (i : ℕ) → ((k : ℕ) → getD bytes k 0 < 2 ^ 8) → fourBytesAt bytes i < 2 ^ 32
-unfolding fourBytesAt
-number-small bytes i small = omega (arith, small i, small (i + 1), small (i + 2), small (i + 3))
-
--- the number whose low half is at index i, and its high half behind it
-abbrev pub halvesAt : List ℕ → ℕ → ℕ
-halvesAt bytes i = fourBytesAt bytes i + 2 ^ 32 * fourBytesAt bytes (i + 4)
 
 -- a number from its digits to the base 256: each q is what is left of it without the digits below
 module _ (a0 a1 a2 a3 a4 a5 a6 a7 : ℕ) where
@@ -29,7 +19,7 @@ module _ (a0 a1 a2 a3 a4 a5 a6 a7 : ℕ) where
       → (a0 + 2 ^ 8 * a1 + 2 ^ 16 * a2 + 2 ^ 24 * a3) + 2 ^ 32 * (a4 + 2 ^ 8 * a5 + 2 ^ 16 * a6 + 2 ^ 24 * a7) ≡ v
   from-digits e0 e1 e2 e3 e4 e5 e6 = omega arith
 
-pub eight-back : (v : ℕ) → v < 2 ^ 64 → halvesAt (eightBytes v) 0 ≡ v
+eight-back : (v : ℕ) → v < 2 ^ 64 → eightBytesAt (eightBytes v) 0 ≡ v
 unfolding fourBytesAt eightBytes
 eight-back v h =
     from-digits
@@ -58,7 +48,7 @@ eight-back v h =
 -- in bytes of two parts
 
 module _ (xs ys : List ℕ) where
-  number-front : (i : ℕ) → i + 4 ≤ length xs → fourBytesAt (xs ++ ys) i ≡ fourBytesAt xs i
+  pub number-front : (i : ℕ) → i + 4 ≤ length xs → fourBytesAt (xs ++ ys) i ≡ fourBytesAt xs i
   unfolding fourBytesAt
   number-front i h =
       let at0 = List·getD-append xs ys 0 i (omega arith) in
@@ -67,18 +57,18 @@ module _ (xs ys : List ℕ) where
       let at3 = List·getD-append xs ys 0 (i + 3) (omega arith) in
       rw (at0, at1, at2, at3)
 
-  number-behind : (n i : ℕ) → length xs ≡ n → fourBytesAt (xs ++ ys) (n + i) ≡ fourBytesAt ys i
+  pub number-behind : (n i : ℕ) → length xs ≡ n → fourBytesAt (xs ++ ys) (n + i) ≡ fourBytesAt ys i
   unfolding fourBytesAt
   number-behind n i e = rw (← e) (simp (add-assoc, getD-append-add))
 
-  halves-front : (i : ℕ) → i + 8 ≤ length xs → halvesAt (xs ++ ys) i ≡ halvesAt xs i
+  halves-front : (i : ℕ) → i + 8 ≤ length xs → eightBytesAt (xs ++ ys) i ≡ eightBytesAt xs i
   halves-front i h = rw (number-front i (omega arith), number-front (i + 4) (omega arith))
 
-  halves-behind : (n : ℕ) → length xs ≡ n → halvesAt (xs ++ ys) n ≡ halvesAt ys 0
+  halves-behind : (n : ℕ) → length xs ≡ n → eightBytesAt (xs ++ ys) n ≡ eightBytesAt ys 0
   halves-behind n e = omega (arith, rw add-zero at (number-behind n 0 e), number-behind n 4 e)
 
 module _ (numbers : List ℕ) (k : ℕ) (fits : getD numbers k 0 < 2 ^ 64) where
-  bytes-back : (n : ℕ) → k < n → halvesAt (bytesTo numbers n) (8 * k) ≡ getD numbers k 0
+  bytes-back : (n : ℕ) → k < n → eightBytesAt (bytesTo numbers n) (8 * k) ≡ getD numbers k 0
   bytes-back zero h = absurd (omega arith)
   bytes-back (suc n) h =
       rw (rows-more (λ (i : ℕ). eightBytes (getD numbers i 0)) n)
@@ -88,9 +78,6 @@ module _ (numbers : List ℕ) (k : ℕ) (fits : getD numbers k 0 < 2 ^ 64) where
       (λ (l : k < n). halves-front (bytesTo numbers n) (eightBytes (getD numbers n 0)) (8 * k) (rw (bytes-long numbers n) (omega arith)) ∙ bytes-back n l)
       (eq-or-lt-of-le (le-of-suc-le-suc h)))
 
-  -- each number that is written
-  pub written-back : (bytes : List ℕ) → k < writtenCount numbers bytes → halvesAt (bytesWritten numbers bytes) (8 * k) ≡ getD numbers k 0
-  unfolding bytesWritten
-  written-back bytes h =
-      let n = writtenCount numbers bytes in
-      halves-front (bytesTo numbers n) (drop (8 * n) bytes) (8 * k) (rw (bytes-long numbers n) (omega arith)) ∙ bytes-back n h
+  -- each number of those whose bytes stand at the front, whatever follows them
+  pub written-back : (n : ℕ) (rest : List ℕ) → k < n → eightBytesAt (bytesTo numbers n ++ rest) (8 * k) ≡ getD numbers k 0
+  written-back n rest h = halves-front (bytesTo numbers n) rest (8 * k) (rw (bytes-long numbers n) (omega arith)) ∙ bytes-back n h

@@ -1,15 +1,17 @@
--- Numbers as bytes, at the boundary to C, by document 01.
--- "At that boundary the slices are bytes, numbers little-endian; bytes over from whole numbers are a wrong length (2, 4), and in the output
--- stay untouched." A number that comes in has four bytes, one that goes out has eight.
+-- Numbers as bytes, at the boundary to C: rule 9.2. A number that comes in has four bytes, one that goes out has eight.
 -- Assumes nothing.
 use Prim.Native.Nat.{ℕ, _+_, _*_, _/_, _%_, _^_, min}
 use mathlib.Core.List.{List, [], _∷_}
 use lib.ListN.{length, getD}
 use Rattle.laws.specs.Rows.{rowsTo, rowsOver, numbersOver}
 
--- the 32-bit number in the four bytes from index i on, the lowest byte first
+-- the 32-bit number in the four bytes from index i on, the lowest byte first (rule 9.2)
 unfoldable pub fourBytesAt : List ℕ → ℕ → ℕ
 fourBytesAt bytes i = getD bytes i 0 + 2 ^ 8 * getD bytes (i + 1) 0 + 2 ^ 16 * getD bytes (i + 2) 0 + 2 ^ 24 * getD bytes (i + 3) 0
+
+-- the 64-bit number in the eight bytes from index i on, the lowest byte first: what a host reads
+abbrev pub eightBytesAt : List ℕ → ℕ → ℕ
+eightBytesAt bytes i = fourBytesAt bytes i + 2 ^ 32 * fourBytesAt bytes (i + 4)
 
 -- the first k numbers of some bytes
 abbrev pub numbersTo : List ℕ → ℕ → List ℕ
@@ -19,11 +21,11 @@ numbersTo bytes = rowsTo (λ (k : ℕ). fourBytesAt bytes (4 * k) ∷ [])
 abbrev pub readCount : List ℕ → List ℕ → ℕ
 readCount bytes numbers = min (length bytes / 4) (length numbers)
 
--- the numbers once the bytes are read into them; what there are no bytes for stays
+-- the numbers once the bytes are read into them; what there are no bytes for stays (rules 2.1 and 9.2)
 unfoldable pub numbersRead : List ℕ → List ℕ → List ℕ
 numbersRead bytes numbers = numbersOver (λ (k : ℕ). fourBytesAt bytes (4 * k)) (readCount bytes numbers) numbers
 
--- the eight bytes of a 64-bit number, the lowest first
+-- the eight bytes of a 64-bit number, the lowest first (rules 2.1 and 9.2)
 unfoldable pub eightBytes : ℕ → List ℕ
 eightBytes v =
     v % 2 ^ 8
@@ -44,6 +46,6 @@ bytesTo numbers = rowsTo (λ (k : ℕ). eightBytes (getD numbers k 0))
 abbrev pub writtenCount : List ℕ → List ℕ → ℕ
 writtenCount numbers bytes = min (length numbers) (length bytes / 8)
 
--- the bytes once the numbers are written to them; those over "stay untouched"
+-- rule 9.4: the bytes once the numbers are written to them; those over are left
 unfoldable pub bytesWritten : List ℕ → List ℕ → List ℕ
 bytesWritten numbers bytes = rowsOver 8 (λ (k : ℕ). eightBytes (getD numbers k 0)) (writtenCount numbers bytes) bytes

@@ -21,7 +21,7 @@ fn put_number(bytes: &mut [u8], i: usize, v: u64)
     bytes[i + 7] = (v / 72057594037927936 % 256) as u8;
 }
 
-// Writes as many numbers, little-endian, as have room for all their eight bytes; bytes over "in the output stay untouched".
+// Writes as many numbers, little-endian, as have room for all their eight bytes, and leaves bytes over as they are.
 pub fn write_numbers(numbers: &[u64], bytes: &mut [u8])
     ensures { λ _. ⌜ now (bytes .exit) ≡ bytesWritten (now (numbers .entry)) (now (bytes .entry)) ⌝ }
 {

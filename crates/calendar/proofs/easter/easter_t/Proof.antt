@@ -1,4 +1,4 @@
--- `easter_t` is document 01's formula step by step: no difference falls below 0 and no sum wraps.
+-- `easter_t` is the formula of rule 1.13 step by step: no difference falls below 0 and no sum wraps.
 -- Assumes nothing.
 use borrow.Author.Needs.{needs}
 use mir.Facts.{fits-le, fits-lit}

@@ -1,0 +1,29 @@
+-- Whatever numbers of 32 bits can be settled or checked can be lent from C as bytes, with the same answer: so what is said of the calls from C is
+-- said of them all.
+-- Assumes nothing.
+use Prim.Native.Nat.{ℕ, _/_, _%_}
+use mathlib.Core.List.{List}
+use mathlib.Core.Path.{_≡_, ap, _∙_}
+use native.Mathlib.Omega.{arith}
+use lib.ListN.{length}
+use Rattle.boundary.proofs.LentLaws.{decoded-whole}
+use Rattle.boundary.proofs.Told.{accepted-told}
+use Rattle.boundary.specs.Calls.{settleCall}
+use Rattle.boundary.specs.Lent.{decoded}
+use Rattle.credit.specs.Settlement.{settlement}
+use Rattle.laws.proofs.Every.{Every}
+use Rattle.wire.proofs.LentBack.{Fits, lent-long, lent-back}
+use Rattle.wire.specs.Bytes.{numbersTo}
+use Rattle.wire.specs.Lent.{lentBytes}
+
+-- the bytes that are lent for some numbers stand for these
+pub lent-any : (numbers : List ℕ) → Every Fits numbers → decoded (lentBytes numbers) ≡ numbers
+lent-any numbers fits =
+    let long = lent-long numbers in
+    let count : length (lentBytes numbers) / 4 ≡ length numbers = omega (arith, long) in
+    decoded-whole (lentBytes numbers) (omega (arith, long)) ∙ ap (numbersTo (lentBytes numbers)) count ∙ lent-back numbers fits
+
+pub lent-settles : (winter price : ℕ) (book list out : List ℕ) → Every Fits book → Every Fits list
+    → settlement winter book price list (length out / 8) .number ≡ 0 → settleCall winter (lentBytes book) price (lentBytes list) (length out) ≡ 0
+lent-settles winter price book list out b l ok =
+    accepted-told winter price (lentBytes book) (lentBytes list) out (rw (lent-any book b, lent-any list l) ok)

@@ -1,0 +1,9 @@
+pub mod Demand1
+pub mod Demand2
+pub mod Demand3
+pub mod Lendable
+pub mod LentBytes
+pub mod Lines
+pub mod Printed
+pub mod Sheets
+pub mod Small

@@ -1,0 +1,121 @@
+-- The line of an event of an accepted list, joined from the laws of the layers: reference days by masks are those by notices, five are always
+-- found, and what the first fault tells decides.
+-- Assumes nothing.
+use Prim.Native.Nat.{ℕ, _*_, _%_, _≤_, _<_}
+use mathlib.Core.Bool.{Bool, true}
+use mathlib.Core.List.{List, List·Memᴰ}
+use mathlib.Core.Logic.{inl, inr, _↔_}
+use mathlib.Core.Path.{_≡_, refl, sym, ap, _∙_}
+use native.Mathlib.Omega.{arith}
+use lib.ListN.{length, getD}
+use Rattle.book.proofs.FirstFault.{Holds, FaultTells}
+use Rattle.book.specs.Readings.{firstFault}
+use Rattle.book.specs.declared.values.Fault.the-variants.{Clean, Missing, TooLarge}
+use Rattle.book.specs.declared.values.Fault.{Fault}
+use Rattle.calendar.specs.WinterOf.{winterOf}
+use Rattle.references.proofs.FiveFound.{free-zero, why-serves, serves-so, five-found}
+use Rattle.references.proofs.ReferenceLaws.{zero-free}
+use Rattle.energy.proofs.HourLaws.{whole-factor}
+use Rattle.references.proofs.Nearest.{Passes, refs-serve, refs-fall, refs-all}
+use Rattle.energy.proofs.Unsettled.{AllThere, FewRefs, ByReadings, Why, line-why, settled-where, settled-only}
+use Rattle.energy.specs.Asked.{Asked, askedWith, needed}
+use Rattle.energy.specs.Energy.{energyOf}
+use Rattle.energy.specs.Line.{settled, byFault, lineOf}
+use Rattle.references.specs.ReferenceDays.{freeIn, serves, referenceDays}
+use Rattle.energy.specs.declared.events.Event.{Event}
+use Rattle.event_hours.proofs.FreeDays.{NoEvent, mask-free, quiet}
+use Rattle.event_hours.specs.Days.{masksOf}
+use Rattle.laws.proofs.Every.{Every, imply}
+use Rattle.notices.specs.declared.notices.Notice.{Notice}
+use Rattle.notices.specs.declared.profiles.Figures.{Figures}
+use Rattle.schedule.proofs.Standing.{Standing}
+use Rattle.demands.specs.Demand2.{Serves, FiveNearest, Unsettled, SaysOf, EventLine}
+
+-- reference days by the masks of a list that stands are those by its notices
+module _ {y : ℕ} {f : Figures} {l : List ℕ} (st : Standing y f l) (day : ℕ) where
+  abbrev free : ℕ → Bool
+  free = freeIn (masksOf l)
+
+  abbrev refs : List ℕ
+  refs = referenceDays (winterOf y) free day
+
+  by-notices : (d : ℕ) → Passes (serves (winterOf y) free day) day d → Serves y l day d
+  by-notices d p =
+      let s = why-serves (winterOf y) free day d (p .ok-is) in
+      record {
+        earlier = p .earlier;
+        same-kind = s .same-kind;
+        no-event = mask-free st d .0 (free-zero (masksOf l) d (s .free-day));
+        open-day = s .open-day;
+      }
+
+  by-masks : (d : ℕ) → Serves y l day d → serves (winterOf y) free day d ≡ true
+  by-masks d s =
+      serves-so (winterOf y) free day d (record {
+        same-kind = s .same-kind;
+        free-day = zero-free (masksOf l) d (mask-free st d .1 (s .no-event));
+        open-day = s .open-day;
+      })
+
+  pub five-nearest : 30 ≤ day → FiveNearest y l day refs
+  five-nearest later =
+      record {
+        five = five-found y free day (λ d h. zero-free (masksOf l) d (quiet st d h)) later;
+        each = imply (Passes (serves (winterOf y) free day) day) (Serves y l day) by-notices refs (refs-serve (winterOf y) free day);
+        nearest-first = refs-fall (winterOf y) free day;
+        no-nearer = λ d s out. refs-all (winterOf y) free day d (s .earlier) (by-masks d s) out .0;
+      }
+
+-- what a line says of the needed readings, by the first fault among them
+module _ (book : List ℕ) (q : Asked) (five : length (q .refs) ≡ 5) where
+  abbrev line : Event
+  line = lineOf book q
+
+  pub settled-exactly : (line .code ≡ 0) ↔ Every (Holds book) (needed q)
+  settled-exactly = (
+    λ z. settled-only book q z .all-readings,
+    λ all. ap (λ (e : Event). e .code) (settled-where book q (record { five-refs = omega arith; all-readings = all })),
+  )
+
+  pub settled-so : line .code ≡ 0 → (line .place ≡ 0) × (line .energy ≡ energyOf book q)
+  settled-so z =
+      let is = settled-where book q (settled-only book q z) in
+      (ap (λ (e : Event). e .place) is, ap (λ (e : Event). e .energy) is)
+
+  by-first : (f : Fault) → FaultTells book (needed q) f → (byFault f (energyOf book q) .code ≡ 0 → ⊥)
+      → Unsettled book (needed q) (byFault f (energyOf book q) .code) (byFault f (energyOf book q) .place) (byFault f (energyOf book q) .energy)
+  by-first Clean told not = absurd (not refl)
+  by-first (Missing p) told not = record { no-energy = refl; first = told .0; why = inl (refl, told .1) }
+  by-first (TooLarge p) told not = record { no-energy = refl; first = told .0; why = inr (refl, told .1, told .2) }
+
+  pub unsettled-so : (line .code ≡ 0 → ⊥) → Unsettled book (needed q) (line .code) (line .place) (line .energy)
+  unsettled-so = by line (line-why book q)
+    where
+      by : (e : Event) → Why book q e → (e .code ≡ 0 → ⊥) → Unsettled book (needed q) (e .code) (e .place) (e .energy)
+      by e (inl few) not = absurd (omega (arith, few .few-refs))
+      by e (inr enough) not =
+          rw (enough .says) (by-first (firstFault book (needed q)) (enough .told) (rw (enough .says) at not))
+
+pub event-line : {y : ℕ} {f : Figures} {l : List ℕ} → Standing y f l → (book : List ℕ) (n : Notice) → 30 ≤ n .day
+    → (code place energy : ℕ)
+    → _≡_ {A = Event} (record { code = code; place = place; energy = energy })
+    (lineOf book (askedWith (winterOf y) n (referenceDays (winterOf y) (freeIn (masksOf l)) (n .day))))
+    → EventLine y book l n code place energy
+event-line {y} {f} {l} st book n later code place energy e =
+    let refs = referenceDays (winterOf y) (freeIn (masksOf l)) (n .day) in
+    let q = askedWith (winterOf y) n refs in
+    let nearest = five-nearest st (n .day) later in
+    let five = nearest .five in
+    let c : code ≡ lineOf book q .code = ap (λ (x : Event). x .code) e in
+    let p : place ≡ lineOf book q .place = ap (λ (x : Event). x .place) e in
+    let g : energy ≡ lineOf book q .energy = ap (λ (x : Event). x .energy) e in
+    record {
+      refs = refs;
+      nearest = nearest;
+      says = record {
+        settled-iff = rw c (settled-exactly book q five);
+        settled = rw (c, p, g) (settled-so book q five);
+        whole-factor = whole-factor (winterOf y) (n .day) (n .start) (length (q .event));
+        unsettled = rw (c, p, g) (unsettled-so book q five);
+      };
+    }
