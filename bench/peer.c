@@ -1,5 +1,5 @@
 /*
- * A plain C peer of the library's two calls, written from document 01 the way C programs are: bytes are read where they lie,
+ * A plain C peer of the library's two calls, written from the specification the way C programs are: bytes are read where they lie,
  * Easter and the weekday of day 0 are worked out once a call, and nothing is kept between calls. The speed of the proved
  * library is measured against it. It is no part of what is delivered.
  */
@@ -89,7 +89,7 @@ static uint32_t refusal(uint32_t number, size_t place)
 
 /* The calendar. */
 
-/* The day of March of Easter Sunday, on past 31 for April. The letters are document 01's. */
+/* The day of March of Easter Sunday, on past 31 for April. The letters are those of rule 1.13. */
 static uint32_t easter_in_march(uint32_t y)
 {
     uint32_t a = y % 19, b = y / 100, c = y % 100, d = b / 4, e = b % 4;
@@ -246,7 +246,7 @@ static uint32_t take_readings(const uint8_t *book, uint32_t day, const struct ho
     return 0;
 }
 
-/* T: the sum of an hour's reference readings less one smallest and less one largest. Row 0 is the event day. */
+/* T of an hour, without one smallest and one largest reading. Row 0 is the event day. */
 static int64_t middle_sum(uint32_t readings[][MOST_NEEDED_HOURS], uint32_t hour)
 {
     uint32_t sum = 0, smallest = HIGHEST_READING, largest = 0;

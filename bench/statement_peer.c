@@ -1,5 +1,5 @@
 /*
- * A plain C peer of the library's call on a text, written from document 01 the way C programs are: one pass over the bytes, and each
+ * A plain C peer of the library's call on a text, written from the specification the way C programs are: one pass over the bytes, and each
  * number is put where the settlement of peer.c reads it. The speed of the proved library is measured against it. It is no part of
  * what is delivered.
  */

@@ -1,6 +1,6 @@
 /*
  * A small host of Ibisladder: it fills books, has lists checked and settled, prints the lines with totals that it adds up itself,
- * and says every refusal in words. Winters, readings and answers are document 01's sample and figures, and follow from it by hand.
+ * and says every refusal in words. Winters, readings and answers are the sample and figures of docs/RULES.md, or follow from it by hand.
  * It ends with failure where an answer is another one.
  *
  *     cc -std=c99 $(pkg-config --cflags ibisladder) host.c $(pkg-config --libs ibisladder)
@@ -27,7 +27,7 @@ struct line {
     uint64_t code, place, energy, cents;
 };
 
-/* A winter's notices at a price, and the lines that document 01 gives them. */
+/* A winter's notices at a price, and the lines that the rules give them. */
 struct account {
     uint32_t price;
     size_t events;
@@ -272,6 +272,6 @@ int main(void)
     right = try_long_list() && right;
     right = try_settlements(book) && right;
     if (!right)
-        fprintf(stderr, "host: an answer is not document 01's\n");
+        fprintf(stderr, "host: an answer is another one\n");
     return right ? EXIT_SUCCESS : EXIT_FAILURE;
 }

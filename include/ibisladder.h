@@ -11,13 +11,13 @@
  *
  * Words and units
  *
- *   winter    named by the year Y of its December, 2010 to 2098: winter 2026 is that of 2026/27.
+ *   winter    has the name Y, the year in which its December lies, 2010 to 2098: winter 2026 is that of 2026/27.
  *   day       counted from 1 November Y, which is day 0, so that 1 December is day 30 and 31 March Y+1 is day N-1.
- *             N is 152 if Y+1 is a leap year (in this range: divisible by 4), else 151.
- *   hour      0 to 23 by the clock, 24 on every day. Hour h runs from h to h+1.
+ *             N is 152 where Y+1 can be divided by 4 (in this range: a leap year), and 151 in other winters.
+ *   hour      0 to 23 by the clock, 24 on every day. Hour h lasts until hour h+1 begins.
  *   reading   the energy drawn in one hour, in Wh: 0 to 10,000,000. IBISLADDER_MISSING stands for a missing one.
  *   book      all readings of a winter: 24 N numbers of 32 bits, day by day, the reading of an hour at index 24 * day + hour.
- *   notice    three numbers of 32 bits: day, first hour s, end e. Its hours, the event's, are s to e-1.
+ *   notice    three numbers of 32 bits: its day, its first hour s, and the hour e at which it ends. Hour e is not one of its hours.
  *   list      0 to 100 notices, one behind the other, in the order of time.
  *   price     in thousandths of a cent per kWh, 1 to 1,000,000.
  *   energy    in eighteenths of a Wh: the rules of the tariff then come out whole, and nothing is rounded.
@@ -25,7 +25,8 @@
  *             spared, and its cents. Neither energy nor cents are ever negative.
  *
  * A line's cents are the rounded worth of all lines up to it, less the rounded worth of all lines before it (halves go up), so
- * that the cents of the lines add up to the rounded worth of their energies. The two totals are the caller's to add up.
+ * that the cents of the lines add up to the rounded worth of their energies. The two totals are the caller's to add up
+ * (docs/RULES.md, rule 9.8).
  *
  *
  * What the caller lends

@@ -31,7 +31,7 @@ SEEN = (
     (rb"^$", "it is empty"),
     (rb"\s", "it has a blank, and there are none in a text"),
     (rb"[-+]", "it has a sign; a missing reading has no mark, its hour is left out"),
-    (rb"^price=.*[.,]", "the price is in thousandths of a cent per kWh, without point or comma:"
+    (rb"^price=.*[.,]", "the price of a kWh is in thousandths of a cent, without point or comma:"
                         " 51.967 cents are 51967"),
     (rb"=.*\.", "it has a decimal point; readings are in whole Wh"),
     (rb"[=,](?:,|$)", "a number is missing; a missing reading has no mark, its hour is left out"),

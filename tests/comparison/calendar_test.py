@@ -202,7 +202,7 @@ def check_accepted(answered):
 
 
 def formula_easter(y):
-    """Easter Sunday by document 01's formula, letter by letter."""
+    """Easter Sunday by the formula of rule 1.13, letter by letter."""
     a, b, c = y % 19, y // 100, y % 100
     d, e = b // 4, b % 4
     f = (b + 8) // 25
@@ -216,7 +216,7 @@ def formula_easter(y):
 
 
 def check_second_easter():
-    """The second program's table of full moons agrees with document 01's formula."""
+    """The second program's table of full moons agrees with the formula of rule 1.13."""
     wrong = [y for y in winters.EASTER_YEARS if winters.easter_sunday(y) != formula_easter(y)]
     if wrong:
         raise Failure(f"the second program's Easter is another one in {wrong}")
@@ -226,7 +226,7 @@ def all_tests():
     """Every test, as its name and a check that raises Failure."""
     answered = []
     return [
-        ("second program's Easter by document 01's formula", check_second_easter),
+        ("second program's Easter by the formula", check_second_easter),
         *((name, partial(check_queries, make, answered)) for name, make in GROUPS),
         *((name, partial(check_outside, make)) for name, make in OUTSIDE),
         ("every possible number was given", partial(check_every_number, answered)),

@@ -1,4 +1,4 @@
-"""Asks for document 01's figures in every way that there is, and of the second program too.
+"""Asks for the figures of docs/RULES.md in every way that there is, and of the second program too.
 
 Each figure is asked of its layer by itself where it is one of a layer's, called from C, and as a
 text. All must say what the figure says.
@@ -101,7 +101,7 @@ def check_references(numbers, day, right):
 
 
 def check_sample():
-    """Document 01's sample, in and out. The texts of the other tests are put together in
+    """The sample of rule 8.16, in and out. The texts of the other tests are put together in
     the same way: the sample's parts make the sample."""
     check_said(both_of_texts, SAMPLE, SAMPLE_STATEMENT)
     made = sample_parts({}).text()
@@ -148,7 +148,7 @@ def all_tests():
             for way, figures in (("checked from C", CHECK_FIGURES), ("from C", SETTLEMENT_FIGURES))
             for name, cases in figures
         ),
-        ("document 01's sample", check_sample),
+        ("the sample", check_sample),
         (
             "empty list: accepted, total 0",
             partial(check_said, both_of_texts, SMALLEST, EMPTY_STATEMENT),

@@ -1,7 +1,7 @@
 """Tests how the program `statement` takes its text and gives its statement away.
 
 A text may come in any pieces, slowly, from a pipe or from a file; the statement may go into
-a pipe or a file. It must be the second program's whatever the way.
+a pipe or a file. It must be the second program's whatever the way (rule 8.18).
 The last line printed is "N passed, M failed".
 """
 

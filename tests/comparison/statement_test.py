@@ -11,6 +11,7 @@ from functools import partial
 from cases.checks import check_built, check_every, check_group, check_share, check_worth
 from cases.statement_cases import GROUPS
 from cases.statement_runs import both_of_texts, read_statement, told
+from cases.text_calls import check_outputs
 from common.harness import Failure, run_tests
 from second import numbers, winters
 
@@ -96,6 +97,7 @@ def all_tests():
     answered = []
     return [
         *((name, partial(check_group, make, both_of_texts, answered)) for name, make in GROUPS),
+        ("the call on a text: outputs of many lengths", check_outputs),
         ("what texts were built for", partial(check_built, told, answered)),
         ("every possible number and code was given", partial(check_every_number, answered)),
         ("numbers were given at many places", partial(check_places, answered)),

@@ -1,4 +1,4 @@
-"""Runs what document 01 calls easy to get wrong, on an input made for each item.
+"""Runs the wrong readings that docs/RULES.md warns of, each on an input made for it.
 
 On that input a wrong reading gives another answer than the second program, or the test fails;
 and the library must give the second program's: event by event, from C, and as a text.

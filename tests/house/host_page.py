@@ -14,7 +14,7 @@ from common.harness import ROOT, Failure
 from second import settlements
 from second.energies import HIGHEST_READING, HOURS, MISSING
 from second.notices import list_check
-from second.settlements import WRONG_LENGTH, Call
+from second.settlements import Call
 
 EXAMPLE = ROOT / "examples" / "host.c"
 
@@ -57,7 +57,7 @@ def at(days, hours, reading):
 
 
 def sample():
-    """Document 01's sample, an event without readings, and a reading that no meter gives."""
+    """The sample, an event without readings, and a reading that no meter gives."""
     readings = {}
     for day, reading in ((31, 2000), (32, 2100), (33, 2200), (36, 2300), (37, 2400)):
         readings |= at([day], [1, 2, 3, 6, 7, 8], reading)
@@ -120,7 +120,7 @@ def long_lists():
     notices = [(63 + day, 6, 10) for day in range(25)]
     yield "100 hours", list_check(WINTER, 1, flat(notices))
     yield "101 hours", list_check(WINTER, 1, flat([*notices, (88, 6, 7)]))
-    yield "a byte over", list_check(WINTER, 1, WRONG_LENGTH)
+    yield "a byte over", list_check(WINTER, 1, None)
 
 
 def refused_settlements():
@@ -128,7 +128,7 @@ def refused_settlements():
     book, notice = book_of({}), (38, 6, 9)
     right = Call(WINTER, book, 51967, notice, settlements.LINE_NUMBERS)
     for tried, call in (
-        ("a byte of the book missing", right._replace(book=WRONG_LENGTH)),
+        ("a byte of the book missing", right._replace(book=None)),
         ("151 days in a leap year", right._replace(winter=WINTER + 1)),
         ("no price", right._replace(price=0)),
         ("a byte of the output missing", right._replace(room=settlements.LINE_NUMBERS - 1)),

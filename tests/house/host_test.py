@@ -1,6 +1,6 @@
 """Tests what a C programmer gets: the header, the libraries, the example and the installed files.
 
-The example examples/host.c has document 01's sample and figures in it and fails by itself
+The example examples/host.c has the sample and figures of docs/RULES.md in it and fails by itself
 where an answer is another one; its output must also be examples/host.expected, whose numbers
 must be the second program's and whose words the header's (host_page.py).
 The archive target/staticlib/libhost.a must be there: `rt staticlib host` proves and writes it.

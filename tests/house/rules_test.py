@@ -22,27 +22,37 @@ CITED = re.compile(r"\b[Rr]ules? (\d+\.\d+(?:(?:,| and| to) \d+\.\d+)*)")
 # A citation may go on in the next line, behind the sign of a comment.
 LINE_BREAK = re.compile(r"\n[ \t]*(?:--|//|#|\*)?[ \t]*")
 
+# What a rule says that no definition can carry: the file that holds it. Before the first rule of
+# a section it is said of all of them.
+HELD_BY = re.compile(r"\*No definition\*: `([^`]+)`")
+
 CITING_FOLDERS = ("crates/", "tests/", "docs/", "include/", "examples/", "bench/", "scripts/")
 CITING_FILES = (".antt", ".rt", ".py", ".md", ".c", ".h", ".edit")
 
 
 class Rule(NamedTuple):
-    """A rule: its number, the section under whose heading it stands, and its line."""
+    """A rule: its number, the section under whose heading it stands, its line, and the file that
+    holds it where no definition can."""
     number: str
     section: str
     line: int
+    held_by: str
 
 
 @cache
 def rules():
     """All rules of the page, in its order."""
-    section, found = "", []
+    section, everywhere, found = "", "", []
     for number, line in lines_of(RULES):
-        heading, rule = SECTION.match(line), RULE.match(line)
+        heading, rule, held = SECTION.match(line), RULE.match(line), HELD_BY.search(line)
         if heading:
-            section = heading[1]
+            section, everywhere = heading[1], ""
         if rule:
-            found.append(Rule(f"{rule[1]}.{rule[2]}", section, number))
+            found.append(Rule(f"{rule[1]}.{rule[2]}", section, number, everywhere))
+        if held and found and found[-1].section == section:
+            found[-1] = found[-1]._replace(held_by=held[1])
+        elif held:
+            everywhere = held[1]
     return found
 
 
@@ -91,10 +101,24 @@ def check_cited():
     check_none(found, "cited rules that are not there")
 
 
+def check_carried():
+    """Every rule has a definition that cites it, or is cited by the file that holds it."""
+    specs = re.compile(r"crates/\w+/specs/\w+\.antt")
+    carried = {number for name in citing() if specs.fullmatch(name) for number in cited_in(name)}
+    found = []
+    for rule in rules():
+        cited = cited_in(rule.held_by) if rule.held_by else carried
+        if rule.number not in cited:
+            by = rule.held_by or "definition"
+            found.append(f"{at(RULES, rule.line)} rule {rule.number}: no {by} cites it")
+    check_none(found, "rules that nothing carries")
+
+
 TESTS = [
     ("every rule has a number of its own", check_once),
     ("rules are numbered in order", check_order),
     ("every rule that is cited is in RULES.md", check_cited),
+    ("every rule has a definition, or a file that holds it", check_carried),
 ]
 
 

@@ -57,7 +57,7 @@ MISTAKES = (
     (
         "a decimal comma in the price",
         changed(b"51967", b"51,967"),
-        "line 2: price=p is due, and the price is in thousandths of a cent per kWh, without point"
+        "line 2: price=p is due, and the price of a kWh is in thousandths of a cent, without point"
         " or comma: 51.967 cents are 51967",
     ),
     (

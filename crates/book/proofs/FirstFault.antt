@@ -14,7 +14,7 @@ use Rattle.book.specs.Values.{largestReading, missingMark, faultOf, orFa
 use Rattle.book.specs.declared.values.Fault.the-variants.{Clean, Missing, TooLarge}
 use Rattle.book.specs.declared.values.Fault.{Fault}
 
--- "A reading is 0 to 10,000,000 Wh."
+-- rule 2.4: what is no fault is a reading
 abbrev pub IsReading : ℕ → Type 0
 IsReading v = v ≤ largestReading
 

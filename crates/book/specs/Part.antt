@@ -13,15 +13,15 @@ use Rattle.book.specs.Readings.{readingAt, drawnAt}
 use Rattle.book.specs.declared.values.Fault.the-variants.{Clean, Missing, TooLarge}
 use Rattle.book.specs.declared.values.Fault.{Fault}
 
--- "where the winter, the book's length or the day is wrong": a book of n numbers has no part for day d of the winter
+-- rule 2.8: a book of n numbers has no part for day d of the winter
 unfoldable pub noPart : Winter → ℕ → ℕ → Bool
 noPart w n d = wrongWinter w || wrongLength (w .days) n || noDay w d
 
--- "A day's 24 readings are handed back as that very part of the lent book; .. the empty part"
+-- rule 2.7: the numbers of a day; none where there is no part
 unfoldable pub dayReadings : Winter → List ℕ → ℕ → List ℕ
 dayReadings w book d = cond (noPart w (length book) d) [] (take dayHours (drop (bookLength d) book))
 
--- the index in the book at which that part starts; the empty part lies at the book's start
+-- the index in the book at which that part starts; the empty part lies at the book's start (rule 2.8)
 unfoldable pub partStart : Winter → ℕ → ℕ → ℕ
 partStart w n d = cond (noPart w n d) 0 (bookLength d)
 
@@ -30,7 +30,7 @@ pub record PartOf (book : List ℕ) (d : ℕ) (p : List ℕ) : Type 0 where
   pub long : length p ≡ dayHours
   pub each : (h : ℕ) → InDay h → readingAt p h ≡ drawnAt book d h
 
--- a fault at an hour of the part of day d, told at its place in the book
+-- a fault at an hour of the part of day d, told at its place in the book (rule 2.3)
 abbrev pub faultOn : ℕ → Fault → Fault
 faultOn d Clean = Clean
 faultOn d (Missing h) = Missing (hourPlace d h)

@@ -4,11 +4,11 @@ use Prim.Native.Nat.{ℕ, zero, suc, _+_, _-_, _*_, _<_}
 use mathlib.Core.List.{List, [], _∷_, _++_, map}
 use Rattle.book.specs.Length.{dayHours}
 
--- an hour of a day: "0 to 23"
+-- rule 1.15: an hour of a day
 abbrev pub InDay : ℕ → Type 0
 InDay h = h < dayHours
 
--- "24 times day plus hour"
+-- rule 2.3: the place of an hour
 abbrev pub hourPlace : ℕ → ℕ → ℕ
 hourPlace day hour = dayHours * day + hour
 

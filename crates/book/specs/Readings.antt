@@ -9,15 +9,15 @@ use Rattle.book.specs.Values.{faultOf, orFault}
 use Rattle.book.specs.declared.values.Fault.the-variants.{Clean}
 use Rattle.book.specs.declared.values.Fault.{Fault}
 
--- what stands at a place; 0 past the end, where nothing stands, so that it is no fault and adds nothing
+-- what stands at a place; 0 past the end, where nothing stands, so that it is no fault and adds nothing (rule 2.9)
 abbrev pub readingAt : List ℕ → ℕ → ℕ
 readingAt values p = getD values p 0
 
--- a day's own reading of an hour
+-- a day's own reading of an hour (rule 2.3)
 abbrev pub drawnAt : List ℕ → ℕ → ℕ → ℕ
 drawnAt book day h = readingAt book (hourPlace day h)
 
--- "the first fault decides"
+-- rule 2.9: the first value at fault among some places
 unfoldable pub firstFault : List ℕ → List ℕ → Fault
 firstFault values [] = Clean
 firstFault values (p ∷ places) = orFault (faultOf (readingAt values p) p) (firstFault values places)

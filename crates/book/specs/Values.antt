@@ -6,18 +6,18 @@ use lib.Dec.{leb, ltb, eqb}
 use Rattle.book.specs.declared.values.Fault.the-variants.{Clean, Missing, TooLarge}
 use Rattle.book.specs.declared.values.Fault.{Fault}
 
--- "A reading is 0 to 10,000,000 Wh. 4294967295 marks a missing one."
+-- rules 2.4 and 2.5: the highest reading, and the mark of a missing one
 abbrev pub largestReading : ℕ
 largestReading = 10000000
 
 abbrev pub missingMark : ℕ
 missingMark = 4294967295
 
--- whether a value is a reading
+-- whether a value is a reading (rule 2.4)
 abbrev pub isReading : ℕ → Bool
 isReading v = leb v largestReading
 
--- "21 a needed reading missing; 22 a needed reading above 10,000,000", of the value v at place p
+-- rule 2.6: what is wrong with the value v at place p, if anything
 unfoldable pub faultOf : ℕ → ℕ → Fault
 faultOf v p = cond (eqb v missingMark) (Missing p) (cond (ltb largestReading v) (TooLarge p) Clean)
 

@@ -15,8 +15,7 @@ fn no_part(w: Winter, length: usize, day: u32) -> bool
     calendar::wrong_winter(w) | wrong_length(w.days, length) | (w.days <= day)
 }
 
-// A day's 24 readings: that very part of the lent book, 96 bytes a day from its start; the empty part where the winter,
-// the book's length or the day is wrong.
+// The part of the lent book that is a day's, 96 bytes a day from its start; the empty part where rule 2.8 says so.
 pub fn day_readings(w: Winter, book: &[u32], day: u32) -> &[u32]
     ensures contents { λ r. ⌜ now r ≡ dayReadings w (now (book .entry)) day ⌝ }
     ensures place { λ r. ⌜ (r .ptr .0 ≡ book .entry .ptr .0) × (r .ptr .1 ≡ book .entry .ptr .1 + 4 * partStart w (length (now (book .entry))) day) ⌝ }

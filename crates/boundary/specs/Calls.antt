@@ -15,7 +15,7 @@ use Rattle.schedule.specs.ListCheck.{checkAnswer}
 use Rattle.wire.specs.Bytes.{bytesTo}
 use Rattle.boundary.specs.Lent.{decoded}
 
--- "to C the answer is one number, 65,536 times the refusal number plus the place, 0 if none"
+-- rule 9.5: number and place in one number
 abbrev pub packed : ℕ → ℕ → ℕ
 packed number place = 65536 * number + place
 
@@ -25,11 +25,11 @@ packedAnswer a = packed (a .number) (getD (a .values) 0 0)
 abbrev pub packedSettlement : Settlement → ℕ
 packedSettlement s = packed (s .number) (s .place)
 
--- the list check
+-- the list check (rule 9.1)
 unfoldable pub checkCall : ℕ → ℕ → List ℕ → ℕ
 checkCall w profile list = packedAnswer (checkAnswer w profile (decoded list))
 
--- an output once its lines are there: the bytes of the lines, and then its own
+-- an output once its lines are there: the bytes of the lines, and then its own (rule 9.7)
 abbrev pub linesOver : ℕ → List ℕ → ℕ → List ℕ → List ℕ → List ℕ
 linesOver w book p list out =
     bytesTo (linesTo p (eventAt w book list) (countOf list)) (lineNumbers * countOf list) ++ drop (8 * (lineNumbers * countOf list)) out
@@ -38,10 +38,10 @@ linesOver w book p list out =
 unfoldable pub settledOver : ℕ → List ℕ → ℕ → List ℕ → ℕ → List ℕ → List ℕ
 settledOver w book p list room out = cond (eqb (settlement w book p list room .number) 0) (linesOver w book p list out) out
 
--- the settlement; the last number is how many bytes the output has, and 64-bit numbers have eight
+-- the settlement; the last number is how many bytes the output has, and 64-bit numbers have eight (rules 9.1 and 9.4)
 unfoldable pub settleCall : ℕ → List ℕ → ℕ → List ℕ → ℕ → ℕ
 settleCall w book p list bytes = packedSettlement (settlement w (decoded book) p (decoded list) (bytes / 8))
 
--- and what it leaves in the output
+-- and what it leaves in the output (rule 9.7)
 unfoldable pub settleBytes : ℕ → List ℕ → ℕ → List ℕ → List ℕ → List ℕ
 settleBytes w book p list out = settledOver w (decoded book) p (decoded list) (length out / 8) out

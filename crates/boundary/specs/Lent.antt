@@ -8,11 +8,11 @@ use lib.ListN.{length, replicate}
 use Rattle.schedule.specs.ListCheck.{badList}
 use Rattle.wire.specs.Bytes.{numbersTo}
 
--- more numbers than any book or list has
+-- more numbers than any book or list has (rule 9.3)
 abbrev pub tooMany : ℕ
 tooMany = 65536
 
--- "bytes over from whole numbers are a wrong length": they are taken for too many numbers
+-- rule 9.3: a length with bytes over counts as too many numbers
 unfoldable pub numberCount : ℕ → ℕ
 numberCount length = cond (eqb (length % 4) 0) (length / 4) tooMany
 

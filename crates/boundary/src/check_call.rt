@@ -38,7 +38,7 @@ fn check_long(winter: u32, profile: u32, list: &[u8], count: usize) -> u32
     check_numbers(winter, profile, &numbers[..count])
 }
 
-// Whether a list of notices, lent as bytes, stands under a profile in a winter: 0, or 65,536 times the refusal number plus the place.
+// Whether a list of notices, lent as bytes, stands under a profile in a winter: 0, or number and place in one (rule 9.5).
 pub fn check_bytes(winter: u32, profile: u32, list: &[u8]) -> u32
     ensures { λ r. ⌜ r ≡ checkCall winter profile (now (list .entry)) ⌝ }
 {

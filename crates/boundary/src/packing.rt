@@ -6,7 +6,7 @@ ghost use Rattle.schedule.specs.Verdicts.{numberOf, placeOf};
 ghost use Rattle.boundary.specs.Calls.{packed};
 use schedule::Verdict;
 
-// 65,536 times the refusal number plus the place.
+// Number and place in one number: rule 9.5.
 pub(crate) fn pack(number: u32, place: u32) -> u32
     requires { ⌜ (number ≤ largestNumber) × (place ≤ largestPlace) ⌝ }
     ensures { λ r. ⌜ r ≡ packed number place ⌝ }

@@ -51,7 +51,7 @@ fn settle_whole(winter: u32, book: &[u8], price: u32, list: &[u8], out: &mut [u8
     )
 }
 
-// SettledBytes a winter whose book and list are lent as bytes, into the bytes of an output: 0, or 65,536 times the refusal number plus the place.
+// Settles a winter whose book and list are lent as bytes, into the bytes of an output: 0, or number and place in one (rule 9.5).
 pub fn settle_bytes(winter: u32, book: &[u8], price: u32, list: &[u8], out: &mut [u8]) -> u32
     ensures { λ r. ⌜ r ≡ settleCall winter (now (book .entry)) price (now (list .entry)) (length (now (out .entry))) ⌝ }
     ensures { λ _. ⌜ now (out .exit) ≡ settleBytes winter (now (book .entry)) price (now (list .entry)) (now (out .entry)) ⌝ }

@@ -1,5 +1,4 @@
--- What each public call of the calendar answers on paper, and the number and values of each case of an answer.
--- "The calendar's own public calls give 1 for a winter outside 2010..2098 (Easter: a year outside 2011..2099), then 10 for a day outside the book."
+-- What each public call of the calendar answers on paper (rules 1.14, 1.16 and 4.3), and the number and values of each case of an answer.
 -- Assumes nothing.
 use Prim.Native.Nat.{ℕ}
 use mathlib.Core.List.{[], _∷_}
@@ -36,14 +35,14 @@ kindPaper (DayKindCase.Is k) = given (bit (k .period) ∷ bit (k .weekend) ∷ b
 kindPaper DayKindCase.NoWinter = refusal 1
 kindPaper DayKindCase.NoDay = refusal 10
 
--- what each call answers
+-- what each call answers (rule 1.16)
 unfoldable pub winterFacts : ℕ → Answer
 winterFacts y = refuse (noWinter y) (refusal 1) (factsPaper (winterOf y))
 
 unfoldable pub easterSunday : ℕ → Answer
 easterSunday y = refuse (noEasterYear y) (refusal 1) (given (easterMonth y ∷ easterDay y ∷ []))
 
--- of a book day: whether it is in the winter period, a weekend day, and excluded
+-- of a book day: whether it is in the winter period, a weekend day, and excluded (rule 1.16)
 unfoldable pub dayKind : Winter → ℕ → Answer
 dayKind w d =
     refuse (wrongWinter w) (refusal 1)

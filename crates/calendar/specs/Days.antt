@@ -6,14 +6,14 @@ use mathlib.Core.Bool.{Bool, _&&_, _||_}
 use lib.Dec.{leb, ltb}
 use Rattle.calendar.specs.declared.answers.Winter.{Winter}
 
--- 1: no winter has so many days
+-- 1: no winter has so many days (rule 1.18)
 unfoldable pub wrongWinter : Winter → Bool
 wrongWinter w = ltb (w .days) 151 || ltb 152 (w .days)
 
--- "10 for a day outside the book", whose days are 0 to N-1
+-- rule 1.16: 10, the book has no such day
 unfoldable pub noDay : Winter → ℕ → Bool
 noDay w d = leb (w .days) d
 
--- "The winter period is days 30 to N-1": from 1 December on
+-- rule 1.10: the winter period, from 1 December on
 unfoldable pub inPeriod : Winter → ℕ → Bool
 inPeriod w d = leb (w .december) d && ltb d (w .days)

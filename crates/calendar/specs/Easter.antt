@@ -1,15 +1,15 @@
--- Easter Sunday, by document 01's formula and in its letters.
+-- Easter Sunday, in the letters of rule 1.13.
 -- Assumes nothing.
 use Prim.Native.Nat.{ℕ, _+_, _-_, _*_, _/_, _%_}
 use mathlib.Core.Bool.{Bool, _||_}
 use lib.Dec.{ltb}
 use Rattle.dates.specs.Winters.{days}
 
--- "(Easter: a year outside 2011..2099)"
+-- rule 1.14: 1, a year whose Easter is not answered
 unfoldable pub noEasterYear : ℕ → Bool
 noEasterYear y = ltb y 2011 || ltb 2099 y
 
--- "Easter Sunday of year y, Gregorian: a = y mod 19, .., t = h+l-7m+114."
+-- rule 1.13: the steps from a to t
 unfoldable pub easterT : ℕ → ℕ
 easterT y =
     let a = y % 19 in
@@ -26,7 +26,7 @@ easterT y =
     let m = (a + 11 * h + 22 * l) / 451 in
     h + l - 7 * m + 114
 
--- "The month is t div 31, the day t mod 31 + 1."
+-- rule 1.13: month and day from t
 abbrev pub easterMonth : ℕ → ℕ
 easterMonth y = easterT y / 31
 
@@ -38,6 +38,6 @@ abbrev pub afterMarchFirst : ℕ → ℕ
 afterMarchFirst y = 31 * (easterMonth y - 3) + easterDay y - 1
 
 -- Easter Sunday of the year after as a day of the book of winter y, the count going on past the book's end: 31 March is day N - 1, so that
--- 1 March is day N - 31
+-- 1 March is day N - 31 (rule 1.17)
 unfoldable pub easterInBook : ℕ → ℕ
 easterInBook y = days y - 31 + afterMarchFirst (y + 1)

@@ -7,7 +7,7 @@ use lib.Dec.{eqb}
 use Rattle.calendar.specs.Days.{noDay}
 use Rattle.calendar.specs.declared.answers.Winter.{Winter}
 
--- "24, 25, 26, 31 December, 1 and 2 January, which are days 53, 54, 55, 60, 61, 62"
+-- rule 1.11: the six days that every winter excludes
 abbrev pub fixedDays : List ℕ
 fixedDays = 53 ∷ 54 ∷ 55 ∷ 60 ∷ 61 ∷ 62 ∷ []
 
@@ -22,6 +22,6 @@ goodFriday w d = eqb (d + 2) (w .easter)
 unfoldable pub easterMonday : Winter → ℕ → Bool
 easterMonday w d = eqb d (w .easter + 1)
 
--- the six fixed days; "and Good Friday and Easter Monday where they are at or before 31 March", the book's last day
+-- rules 1.11 and 1.12: one of the six, or beside Easter Sunday and in the book
 unfoldable pub excluded : Winter → ℕ → Bool
 excluded w d = among d fixedDays || (not (noDay w d) && (goodFriday w d || easterMonday w d))

@@ -9,10 +9,10 @@ use Rattle.calendar.specs.Easter.{easterInBook}
 use Rattle.calendar.specs.Weekdays.{firstWeekday}
 use Rattle.calendar.specs.declared.answers.Winter.{Winter}
 
--- "1 December is day 30."
+-- rule 1.17: the four facts
 unfoldable pub winterOf : ℕ → Winter
 winterOf y = record { days = days y; december = 30; first = firstWeekday y; easter = easterInBook y }
 
--- the first day of a month of winter y, 0 where its book has no such month
+-- the first day of a month of winter y, 0 where its book has no such month (rule 1.5)
 abbrev pub firstOf : ℕ → ℕ → ℕ
 firstOf y month = getD (bookDayOf y month 1 .values) 0 0

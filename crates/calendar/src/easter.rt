@@ -12,7 +12,7 @@ fn no_easter_year(year: u32) -> bool
     (year < 2011) | (2099 < year)
 }
 
-// Document 01's t, in its letters: the month of Easter Sunday is t div 31, the day t mod 31 + 1. In 64 bits no step wraps.
+// The t of rule 1.13, in its letters, from which month and day follow. In 64 bits no step wraps.
 fn easter_t(y: u64) -> u64
     ensures { λ r. ⌜ r ≡ easterT y ⌝ }
 {

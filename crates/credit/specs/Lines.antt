@@ -10,10 +10,10 @@ use Rattle.energy.specs.declared.events.Event.{Event}
 abbrev pub lineNumbers : ℕ
 lineNumbers = 4
 
--- "Each notice fills four 64-bit numbers of the output: code, place, energy, cents."
+-- rule 7.5: the line of the notice at index k
 unfoldable pub lineAt : ℕ → (ℕ → Event) → ℕ → List ℕ
 lineAt p events k = events k .code ∷ events k .place ∷ events k .energy ∷ centsAt p (energyAt events) k ∷ []
 
--- the first k lines
+-- the first k lines (rule 7.6)
 abbrev pub linesTo : ℕ → (ℕ → Event) → ℕ → List ℕ
 linesTo p events = rowsTo (lineAt p events)

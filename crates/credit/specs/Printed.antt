@@ -6,7 +6,7 @@ use lib.ListN.{getD}
 use Rattle.energy.specs.declared.events.Event.{Event}
 use Rattle.credit.specs.Lines.{lineNumbers}
 
--- "Each notice fills four 64-bit numbers of the output: code, place, energy, cents."
+-- rule 7.5: which of its four numbers is which
 abbrev pub codeIn : List ℕ → ℕ → ℕ
 codeIn out k = getD out (lineNumbers * k) 0
 

@@ -1,5 +1,4 @@
--- The refusals of a settlement.
--- "Order: .. settlement 1, 2, 3, 4, 6, then the notices under profile 1".
+-- The refusals of a settlement, in the order of rule 4.22.
 -- Assumes nothing.
 use Prim.Native.Nat.{ℕ, _*_}
 use mathlib.Core.Bool.{Bool}
@@ -18,15 +17,15 @@ use Rattle.notices.specs.declared.profiles.Profile.the-variants.{Credit}
 use Rattle.schedule.specs.ListCheck.{noticesTable, badList}
 use Rattle.credit.specs.Lines.{lineNumbers}
 
--- "2: book length is not 24N"
+-- rule 4.4: no book of that winter
 unfoldable pub badBook : ℕ → ℕ → Bool
 badBook w readings = wrongLength (days w) readings
 
--- "6: output has fewer than 4 numbers a notice", by how many numbers the list has
+-- rule 4.8: too little room, by how many numbers the list has
 unfoldable pub shortOutput : ℕ → ℕ → Bool
 shortOutput numbers room = ltb room (lineNumbers * countIn numbers)
 
--- by winter and price, and by how many numbers the book, the list and the output have
+-- by winter and price, and by how many numbers the book, the list and the output have (rule 4.22)
 unfoldable pub callRows : ℕ → ℕ → ℕ → ℕ → ℕ → List Row
 callRows w readings p numbers room =
     row 1 0 (noWinter w)
@@ -36,7 +35,7 @@ callRows w readings p numbers room =
     ∷ row 6 0 (shortOutput numbers room)
     ∷ []
 
--- the whole table, and the first row of it that is broken; no reading is looked at
+-- the whole table, and the first row of it that is broken; no reading is looked at (rule 4.22)
 unfoldable pub settlementTable : ℕ → ℕ → ℕ → List ℕ → ℕ → List Row
 settlementTable w readings p l room = callRows w readings p (length l) room ++ noticesTable (winterOf w) (figuresOf Credit) l
 

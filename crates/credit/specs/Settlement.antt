@@ -18,26 +18,26 @@ use Rattle.credit.specs.Lines.{lineNumbers, lineAt}
 use Rattle.credit.specs.Refusals.{refusalOf}
 use Rattle.credit.specs.declared.call.Settlement.{Settlement}
 
--- "totals beside a refusal are 0"
+-- rule 4.2: no totals beside a refusal
 abbrev pub refusedWith : ℕ → ℕ → Settlement
 refusedWith number place = record { number = number; place = place; energy = 0; cents = 0 }
 
--- "The call returns total energy and total cents." "An accepted call's number and place are 0."
+-- rule 7.7: the totals, with number and place of an accepted call
 abbrev pub totalsOf : ℕ → (ℕ → Event) → ℕ → Settlement
 totalsOf p events n = record { number = 0; place = 0; energy = sumTo (energyAt events) n; cents = roundedWorth p (sumTo (energyAt events) n) }
 
--- "Numbers past the last line are untouched."
+-- rule 7.6: the lines at the front, and the rest as it was
 abbrev pub linesIn : ℕ → (ℕ → Event) → ℕ → List ℕ → List ℕ
 linesIn p events n out = rowsOver lineNumbers (lineAt p events) n out
 
--- "Whole-call refusals return the number and a place, and write nothing"
+-- rule 4.2: the refusal and nothing written, or the settlement
 unfoldable pub settledBy : Answer → ℕ → (ℕ → Event) → ℕ → Settlement
 settledBy refusal p events n = cond (isRefusal refusal) (refusedWith (refusal .number) (getD (refusal .values) 0 0)) (totalsOf p events n)
 
 unfoldable pub writtenBy : Answer → ℕ → (ℕ → Event) → ℕ → List ℕ → List ℕ
 writtenBy refusal p events n out = cond (isRefusal refusal) out (linesIn p events n out)
 
--- winter, book, price, list, and how many numbers the output has
+-- winter, book, price, list, and how many numbers the output has (rule 7.8)
 unfoldable pub settlement : ℕ → List ℕ → ℕ → List ℕ → ℕ → Settlement
 settlement w book p l room = settledBy (refusalOf w (length book) p l room) p (eventAt w book l) (countOf l)
 

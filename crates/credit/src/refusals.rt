@@ -5,7 +5,7 @@ ghost use Rattle.credit.specs.Refusals.{shortOutput, callRows};
 use crate::lines::LINE_NUMBERS;
 use dates::Days;
 
-// 6: the output has fewer than 4 numbers a notice. Divided on both sides, so that no length is too large.
+// 6: the output has too little room (rule 4.8). Divided on both sides, so that no length is too large.
 fn short_output(numbers: usize, room: usize) -> bool
     ensures { λ r. ⌜ r ≡ shortOutput numbers room ⌝ }
 {

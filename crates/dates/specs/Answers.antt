@@ -28,7 +28,7 @@ datePaper (DateCase.On month day) = given (month ∷ day ∷ [])
 datePaper DateCase.NoWinter = refusal 1
 datePaper DateCase.NoDay = refusal 10
 
--- what each call answers
+-- what each call answers (rule 1.16)
 unfoldable pub winterDays : ℕ → Answer
 winterDays y = refuse (noWinter y) (refusal 1) (given (days y ∷ []))
 

@@ -1,5 +1,4 @@
--- The spared energy of an event: "R is the sum of T over the event hours, B the sum of T over the warm-up hours, A and C the event day's
--- own readings over warm-up and event hours."
+-- The spared energy of an event, from the readings: rules 6.3 and 6.4.
 -- Assumes nothing.
 use Prim.Native.Nat.{ℕ}
 use mathlib.Core.List.{List, map}
@@ -9,11 +8,11 @@ use Rattle.energy.specs.Asked.{Asked}
 use Rattle.energy.specs.Spared.{sparedOf}
 use Rattle.energy.specs.Trimmed.{trimmedOf}
 
--- T of an hour
+-- T of an hour (rule 6.2)
 unfoldable pub trimmedAt : List ℕ → List ℕ → ℕ → ℕ
 trimmedAt book refs h = trimmedOf (map (λ (d : ℕ). drawnAt book d h) refs)
 
--- H and W are the numbers of event and warm-up hours
+-- H and W are the numbers of event and warm-up hours (rule 5.3)
 unfoldable pub energyOf : List ℕ → Asked → ℕ
 energyOf book q =
     sparedOf (length (q .event)) (length (q .warm))

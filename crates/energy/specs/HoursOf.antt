@@ -1,4 +1,4 @@
--- What the code's hours of an event are: two runs of hours, document 01's warm-up and event hours.
+-- What the code's hours of an event are: two runs, its warm-up hours and its own.
 -- Assumes nothing.
 use Prim.Native.Nat.{ℕ, _+_, _-_, _≤_, _<_}
 use mathlib.Core.List.{List}

@@ -23,21 +23,21 @@ use Rattle.energy.specs.declared.events.Event.{Event}
 use Rattle.energy.specs.declared.call.Line.{Line}
 use Rattle.energy.specs.declared.call.Line.the-variants as LineCase
 
--- "0 settled"
+-- a settled event has code 0 (rule 5.11)
 abbrev pub settled : ℕ → Event
 settled energy = record { code = 0; place = 0; energy = energy }
 
--- "An unsettled line has energy 0."
+-- one that is left unsettled has no energy (rule 5.11)
 abbrev pub unsettled : ℕ → ℕ → Event
 unsettled code place = record { code = code; place = place; energy = 0 }
 
--- by the first fault among the needed readings
+-- by the first fault among the needed readings (rules 5.9 and 5.10)
 abbrev pub byFault : Fault → ℕ → Event
 byFault Clean energy = settled energy
 byFault (Missing p) energy = unsettled 21 p
 byFault (TooLarge p) energy = unsettled 22 p
 
--- "20 fewer than five reference days"; "20 comes before 21 and 22."
+-- rules 5.8, 5.9, 5.10 and 5.11: the line, the code 20 tried before all others
 unfoldable pub lineOf : List ℕ → Asked → Event
 lineOf book q = cond (ltb (length (q .refs)) 5) (unsettled 20 0) (byFault (firstFault book (needed q)) (energyOf book q))
 
@@ -49,7 +49,7 @@ pub record EventAnswer : Type 0 where
 abbrev pub told : ℕ → Event → EventAnswer
 told number event = record { number = number; event = event }
 
--- the paper's number and event for each case
+-- the paper's number and event for each case (rule 4.25)
 abbrev pub linePaper : Line → EventAnswer
 linePaper (LineCase.Is event) = told 0 event
 linePaper LineCase.NoWinter = told 1 (settled 0)
@@ -57,7 +57,7 @@ linePaper LineCase.BadBook = told 2 (settled 0)
 linePaper LineCase.OutsidePeriod = told 10 (settled 0)
 linePaper LineCase.BadHours = told 13 (settled 0)
 
--- what refuses the call: a wrong winter, book, day or hours, by how many readings the book has
+-- rule 4.24: what refuses the call on one event, by how many readings the book has
 unfoldable pub eventRows : Winter → ℕ → Notice → List Row
 eventRows w readings n =
     row 1 0 (wrongWinter w)
@@ -71,6 +71,6 @@ abbrev pub unlessRefused : ℕ → Event → EventAnswer
 unlessRefused zero event = told 0 event
 unlessRefused (suc number) event = told (suc number) (settled 0)
 
--- the call on one event
+-- the call on one event (rule 4.24)
 unfoldable pub eventAnswer : Winter → List ℕ → List ℕ → Notice → EventAnswer
 eventAnswer w book masks n = unlessRefused (firstOf (eventRows w (length book) n) .number) (lineOf book (askedBy w (freeIn masks) n))

@@ -1,4 +1,4 @@
--- T: "For an hour, T is the sum of its five reference readings less one smallest and less one largest."
+-- T, rule 6.2: all but one smallest and one largest, added up.
 -- Assumes nothing.
 use Prim.Native.Nat.{ℕ, _+_, _-_, min, max}
 use mathlib.Core.List.{List, [], _∷_}

@@ -1,4 +1,4 @@
-// T: the sum of an hour's five reference readings less one smallest and less one largest.
+// T of an hour: rule 6.2.
 ghost use mathlib.Core.Path.{_≡_};
 ghost use mathlib.Core.List.{[], _∷_};
 ghost use Prim.Native.Nat.{min, max};

@@ -63,12 +63,12 @@ module _ (l : List ℕ) where
   length-to zero = length-replicate {A = ℕ} 152 0
   length-to (suc k) = length-with (masksTo l k) (noticeAt l k) ∙ length-to k
 
-  -- "The masks of all 152 days are held together in one value"
+  -- rule 2.14: a mask for each of 152 days
   pub length-masks : length (masksOf l) ≡ 152
   unfolding masksOf
   length-masks = length-to (countOf l)
 
--- "all zero at first"
+-- rule 2.14: no hour before the first notice
 pub zero-at : (n d : ℕ) → _≡_ {A = ℕ} (getD (replicate n 0) d 0) 0
 zero-at zero d = refl
 zero-at (suc n) zero = refl
@@ -84,7 +84,7 @@ module _ (l : List ℕ) (d : ℕ) where
       (λ (a : Added (masksTo l k) (noticeAt l k) d). rw (a .mask-is) (or-lt 24 _ _ (small-to k) (mask-small _ _ (a .marking .in-day))))
       (kept-or-added (masksTo l k) (noticeAt l k) (length-to l k) d)
 
-  -- "24 bits"
+  -- rule 2.13: no bit past the day's last hour
   pub masks-small : dayMask l d < 2 ^ 24
   unfolding masksOf
   masks-small = small-to (countOf l)

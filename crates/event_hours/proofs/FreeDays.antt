@@ -31,6 +31,6 @@ module _ {w : ℕ} {f : Figures} {l : List ℕ} (st : Standing w f l) (d : ℕ) 
   pub mask-free : (dayMask l d ≡ 0) ↔ NoEvent l d
   mask-free = (unmarked, unnoticed)
 
-  -- "The winter period is days 30 to N-1."
+  -- rule 1.10: the winter period has an end
   pub quiet : d < 30 → dayMask l d ≡ 0
   quiet h = unnoticed (λ k b e. omega (arith, st .each k b .from-december))

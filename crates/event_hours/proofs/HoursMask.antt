@@ -50,7 +50,7 @@ even-half : (s e : ℕ) → hoursMask (suc s) (suc e) / 2 ≡ hoursMask s e
 unfolding hoursMask
 even-half s e = omega (arith, pow-suc 2 e, pow-suc 2 s)
 
--- "bit h for hour h"
+-- rule 2.13: which bits are set
 pub hours-bit : (s e h : ℕ) → (bitAt (hoursMask s e) h ≡ 1) ↔ ((s ≤ h) × (h < e))
 hours-bit s zero h = (λ q. absurd (omega (arith, bit-zero h, rw (no-hours s) at q)), λ q. absurd (omega arith))
 hours-bit zero (suc e) zero = (λ q. omega arith, λ q. omega (arith, odd e))
@@ -64,14 +64,14 @@ hours-bit (suc s) (suc e) (suc h) =
     let r = hours-bit s e h in
     (λ q. let i = r .0 (sym t ∙ q) in omega arith, λ q. t ∙ r .1 (omega arith))
 
--- "the length of an event is its count of ones"
+-- rule 2.15: the ones are the length
 pub hours-ones : (s e : ℕ) → ones (hoursMask s e) ≡ e - s
 unfolding ones
 hours-ones s zero = rw (no-hours s) (omega arith)
 hours-ones zero (suc e) = ones-step (hoursMask zero (suc e)) ∙ rw (odd e, odd-half e, hours-ones zero e) (omega arith)
 hours-ones (suc s) (suc e) = ones-step (hoursMask (suc s) (suc e)) ∙ rw (even s e, even-half s e, hours-ones s e) (omega arith)
 
--- "and its start the count of trailing zeros", of any number of bits that holds the start
+-- rule 2.15: the zeros below them are the start, of any number of bits that holds it
 pub hours-zeros : (bits s e : ℕ) → s < e → s < bits → trailingZeros bits (hoursMask s e) ≡ s
 unfolding trailingZeros
 hours-zeros zero s e h b = absurd (omega arith)

@@ -21,7 +21,7 @@ use Rattle.event_hours.proofs.Bits.{bit-zero, or-either, or-left, or-ri
 use Rattle.event_hours.proofs.DayLaws.{Marks}
 use Rattle.event_hours.proofs.HoursMask.{hours-bit}
 
--- a notice is on day d and covers hour h: "its hours are s to e-1"
+-- a notice is on day d and covers hour h (rule 2.10)
 pub record CoversHour (n : Notice) (d h : ℕ) : Type 0 where
   pub day-is : n .day ≡ d
   pub from : n .start ≤ h

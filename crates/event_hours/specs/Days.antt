@@ -1,5 +1,4 @@
--- The event hours of all days, filled from the notices of a list.
--- "The masks of all 152 days are held together in one value, all zero at first."
+-- The event hours of all days together, filled from the notices of a list: rule 2.14.
 -- Assumes nothing.
 use Prim.Native.Nat.{ℕ, zero, suc}
 use mathlib.Core.Bool.{Bool, cond, _||_}
@@ -11,7 +10,7 @@ use Rattle.notices.specs.Notices.{countOf, noticeAt}
 use Rattle.notices.specs.declared.notices.Notice.{Notice}
 use Rattle.event_hours.specs.Hours.{hoursMask, ownHours}
 
--- a notice that names no hours of a day that a book can have; no list with such a notice is accepted
+-- a notice that names no hours of a day that a book can have; no list with such a notice is accepted (rule 2.14)
 unfoldable pub marksNone : Notice → Bool
 marksNone n = leb 152 (n .day) || leb (n .end) (n .start) || ltb 24 (n .end)
 
@@ -23,7 +22,7 @@ hoursIn n = hoursMask (n .start) (n .end)
 unfoldable pub withHours : List ℕ → Notice → List ℕ
 withHours masks n = cond (marksNone n) masks (set masks (n .day) (bitOr (getD masks (n .day) 0) (hoursIn n)))
 
--- the masks of the first k notices of a list
+-- the masks of the first k notices of a list (rule 2.14)
 unfoldable pub masksTo : List ℕ → ℕ → List ℕ
 masksTo l zero = replicate 152 0
 masksTo l (suc k) = withHours (masksTo l k) (noticeAt l k)

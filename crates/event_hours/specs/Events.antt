@@ -1,5 +1,4 @@
--- An event as its day's bits have it.
--- "the length of an event is its count of ones and its start the count of trailing zeros." The two counts are the kit's.
+-- An event as its day's bits have it: rule 2.15. The counts of ones and of zeros are the kit's.
 -- Assumes nothing.
 use Prim.Native.Nat.{ℕ, _+_}
 use mathlib.Core.Bool.{Bool, not, cond, _&&_}
@@ -10,11 +9,11 @@ use lib.ListN.{getD}
 use Rattle.notices.specs.declared.notices.Notice.{Notice}
 use Rattle.event_hours.specs.Hours.{hoursMask, ownHours}
 
--- whether some bits are just those of the hours s to e-1 of a day
+-- whether some bits are just those of the hours s to e-1 of a day (rule 2.15)
 unfoldable pub isRun : ℕ → ℕ → ℕ → Bool
 isRun bits s e = not (ltb 24 e) && eqb bits (hoursMask s e)
 
--- the event of some bits of a day, one of no hours where they are no run
+-- the event of some bits of a day, one of no hours where they are no run (rule 2.15)
 unfoldable pub eventOf : ℕ → ℕ → Notice
 eventOf day bits =
     let s = trailingZeros 32 bits in
@@ -25,6 +24,6 @@ eventOf day bits =
 unfoldable pub maskOn : List ℕ → ℕ → ℕ
 maskOn masks d = cond (leb 152 d) 0 (getD masks d 0)
 
--- the event that the masks hold on the day and in the band of a notice
+-- the event that the masks hold on the day and in the band of a notice (rule 2.15)
 unfoldable pub eventOn : List ℕ → Notice → Notice
 eventOn masks n = eventOf (n .day) (ownHours (maskOn masks (n .day)) (n .start))

@@ -9,7 +9,7 @@ use Rattle.form.specs.Form.{formOf}
 use Rattle.form.specs.declared.whole.Form.the-variants as form
 use Rattle.form.specs.declared.whole.Form.{Form}
 
--- the paper's number and values for each case
+-- the paper's number and values for each case (rule 4.17)
 abbrev pub formPaper : Form → Answer
 formPaper (form.Whole f) = given (f .winter ∷ f .price ∷ f .events ∷ f .misplaced ∷ [])
 formPaper (form.Broken line) = refusalAt 30 line

@@ -1,4 +1,4 @@
--- The text of some values, as document 01 writes it.
+-- The text of some values, in the form of rule 8.3.
 -- Assumes nothing.
 use Prim.Native.Nat.{ℕ, _≤_}
 use mathlib.Core.List.{List, [], _∷_, _++_, map}
@@ -24,19 +24,19 @@ pub record Document : Type 0 where
   pub events : List EventLine
   pub reads : List ReadLine
 
--- "A notice is three numbers: day, first hour s, end e"
+-- rule 2.10: the numbers of a notice
 abbrev pub eventNumbers : EventLine → List ℕ
 eventNumbers x = x .day ∷ x .start ∷ x .end ∷ []
 
--- `event=day,s,e`
+-- `event=day,s,e` (rule 8.4)
 abbrev pub eventLine : EventLine → Line
 eventLine x = line "event=" (eventNumbers x)
 
--- `read=day,hour,v,..`
+-- `read=day,hour,v,..` (rule 8.5)
 abbrev pub readLine : ReadLine → Line
 readLine x = line "read=" (x .day ∷ x .hour ∷ x .values)
 
--- "`winter=`, `price=`, `events=n`, n lines `event=day,s,e`, `reads=m`, m lines `read=day,hour,v,..`"
+-- rule 8.3: all lines, in their order
 unfoldable pub documentLines : Document → List Line
 documentLines d =
     line "winter=" (d .winter ∷ [])
@@ -52,7 +52,7 @@ pub record SmallEvent (x : EventLine) : Type 0 where
   pub start : Small (x .start)
   pub end : Small (x .end)
 
--- "with 1 to 24 values"
+-- rule 8.5: how many values a read line may have
 pub record SmallRead (x : ReadLine) : Type 0 where
   pub day : Small (x .day)
   pub hour : Small (x .hour)
@@ -69,7 +69,7 @@ pub record Writable (d : Document) : Type 0 where
   pub counted : Small (length (d .reads))
   pub reads : Every SmallRead (d .reads)
 
--- the list of notices
+-- the list of notices (rule 2.11)
 unfoldable pub noticesIn : List EventLine → List ℕ
 noticesIn [] = []
 noticesIn (x ∷ xs) = eventNumbers x ++ noticesIn xs

@@ -1,6 +1,4 @@
--- The form of a whole text, line by line, and what a text says up to what breaks the form.
--- "Lines end in byte 10, in this order: `winter=`, `price=`, `events=n`, n lines `event=day,s,e`, `reads=m`, m lines `read=day,hour,v,..`
--- with 1 to 24 values for successive hours. Nothing follows." "A text that stops early is refused at its first missing or unfinished line."
+-- The form of a whole text, line by line, and what a text says up to what breaks the form: rules 8.3, 8.6 and 8.7.
 -- Assumes nothing.
 use Prim.Native.Nat.{ℕ, _+_}
 use mathlib.Core.Bool.{cond}
@@ -17,7 +15,7 @@ use Rattle.form.specs.declared.whole.Form.the-variants as form
 use Rattle.form.specs.declared.whole.Top.{Top}
 use Rattle.form.specs.declared.whole.Top.the-variants as top
 
--- the first three lines
+-- the first three lines (rule 8.3)
 unfoldable pub topOf : List ℕ → Top
 topOf s =
     afterNumber (top.Broken 1) (keyedAt s 0 (bytesOf "winter="))
@@ -28,7 +26,7 @@ abbrev pub afterTop : {A : Type 0} → (ℕ → A) → Top → (ℕ → ℕ → 
 afterTop broken (top.Is winter price events p) go = go winter price events p
 afterTop broken (top.Broken line) go = broken line
 
--- from the line `reads=` on, which stands at a position; the line after the last is broken by what follows
+-- from the line `reads=` on, which stands at a position; the line after the last is broken by what follows (rule 8.6)
 unfoldable pub restOf : List ℕ → ℕ → ℕ → ℕ → ℕ → Form
 restOf s winter price events at =
     afterNumber (form.Broken (events + 4)) (keyedAt s at (bytesOf "reads="))
@@ -42,7 +40,7 @@ restOf s winter price events at =
     }))
     (form.Broken (events + 4 + 1 + reads))))
 
--- what a text that has the form says beside its lines, or the first line that breaks it
+-- what a text that has the form says beside its lines, or the first line that breaks it (rule 8.6)
 unfoldable pub formOf : List ℕ → Form
 formOf s =
     afterTop form.Broken (topOf s)

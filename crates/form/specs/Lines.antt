@@ -1,5 +1,4 @@
--- The event lines and the read lines of a text, read from a position on.
--- "n lines `event=day,s,e`", "m lines `read=day,hour,v,..` with 1 to 24 values for successive hours".
+-- The event lines and the read lines of a text, read from a position on: rules 8.4 and 8.5.
 -- Assumes nothing.
 use Prim.Native.Nat.{ℕ, zero, suc, _+_}
 use mathlib.Core.Bool.{cond}
@@ -22,11 +21,11 @@ use Rattle.form.specs.declared.lines.Lines.the-variants as lines
 abbrev pub exactly : ℕ → Read (List ℕ) → Read (List ℕ)
 exactly n r = record { said = r .said; end = cond (eqb (length (r .said)) n) (r .end) step.Broken }
 
--- `event=day,s,e`
+-- `event=day,s,e` (rule 8.4)
 unfoldable pub eventLineAt : List ℕ → ℕ → Read (List ℕ)
 eventLineAt s at = afterStep noNumber (wordAt s at (bytesOf "event=")) (λ p. exactly noticeNumbers (rowAt noticeNumbers s p))
 
--- `read=day,hour,`
+-- `read=day,hour,` (rule 8.5)
 unfoldable pub headAt : List ℕ → ℕ → Head
 headAt s at =
     afterStep head.Broken (wordAt s at (bytesOf "read="))
@@ -44,11 +43,11 @@ abbrev pub afterHead : {A : Type 0} → A → Head → (ℕ → ℕ → ℕ → 
 afterHead broken (head.Start day hour p) go = go day hour p
 afterHead broken head.Broken go = broken
 
--- `read=day,hour,v,..`
+-- `read=day,hour,v,..` (rule 8.5)
 unfoldable pub readLineAt : List ℕ → ℕ → Read ReadLine
 readLineAt s at = afterHead noRead (headAt s at) (λ day hour p. readFrom day hour (rowAt dayHours s p))
 
--- n lines of a kind from a position on, by what reads one of them: where they end, if the first is line `line` of the text
+-- n lines of a kind from a position on, by what reads one of them: where they end, if the first is line `line` of the text (rule 8.7)
 unfoldable pub linesEnd : {A : Type 0} → (ℕ → Read A) → ℕ → ℕ → ℕ → Lines
 linesEnd one zero at line = lines.Whole at
 linesEnd one (suc n) at line = afterStep (lines.Broken line) (one at .end) (λ p. linesEnd one n p (line + 1))

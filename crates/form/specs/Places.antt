@@ -1,6 +1,4 @@
--- Where the values of read lines stand in the book.
--- "31: a read line not after the one before, or outside the book or day; place is the line".
--- "Each read line starts at or after the end of the one before."
+-- Where the values of read lines stand in the book, and which lines are misplaced: rules 4.18 and 8.8.
 -- Assumes nothing.
 use Prim.Native.Nat.{ℕ, _+_}
 use mathlib.Core.Bool.{Bool, cond, _||_}
@@ -31,14 +29,14 @@ startOf x = hourPlace (x .day) (x .hour)
 abbrev pub endOf : ReadLine → ℕ
 endOf x = startOf x + length (x .values)
 
--- a line of so many values from an hour of a day on, where the book has so many days and the line before ends before place `end`
+-- a line of so many values from an hour of a day on, where the book has so many days and the line before ends before place `end` (rule 8.8)
 unfoldable pub misplacedBy : ℕ → ℕ → ℕ → ℕ → ℕ → Bool
 misplacedBy days end day hour count = leb days day || ltb dayHours (hour + count) || ltb (hourPlace day hour) end
 
 abbrev pub misplaced : ℕ → ℕ → ReadLine → Bool
 misplaced days end x = misplacedBy days end (x .day) (x .hour) (length (x .values))
 
--- the first of some read lines that is misplaced, or 0: the next of them is the kth line
+-- the first of some read lines that is misplaced, or 0: the next of them is the kth line (rule 4.18)
 unfoldable pub misplacedIn : ℕ → List ReadLine → ℕ → ℕ → ℕ
 misplacedIn days [] k end = 0
 misplacedIn days (x ∷ xs) k end = cond (misplaced days end x) k (misplacedIn days xs (k + 1) (endOf x))
@@ -50,7 +48,7 @@ misplacedLine days events reads = misplacedIn days reads (events + 4 + 1) 0
 abbrev pub misplacedLineIn : ℕ → Document → ℕ
 misplacedLineIn days d = misplacedLine days (length (d .events)) (d .reads)
 
--- "values for successive hours": the book once a read line is put into it, and once some are
+-- rules 8.5 and 8.9: the book once a read line is put into it, and once some are
 abbrev pub putRead : ReadLine → List ℕ → List ℕ
 putRead x book = sets book (startOf x) (x .values)
 

@@ -1,9 +1,9 @@
-// What a host program in C calls: the list check and the settlement, on numbers and lent bytes. No more than the names.
+// The two calls of rule 9.1, on numbers and lent bytes. No more than the names.
 ghost use mathlib.Core.Path.{_≡_};
 ghost use lib.ListN.{length};
 ghost use Rattle.boundary.specs.Calls.{checkCall, settleCall, settleBytes};
 
-// Whether a list of notices stands under a profile in a winter: 0, or 65,536 times the refusal number plus the place.
+// Whether a list of notices stands under a profile in a winter: 0, or number and place in one (rule 9.5).
 #[no_mangle]
 pub extern "C" fn ibisladder_check(winter: u32, profile: u32, list: &[u8]) -> u32
     ensures { λ r. ⌜ r ≡ checkCall winter profile (now (list .entry)) ⌝ }
@@ -11,7 +11,7 @@ pub extern "C" fn ibisladder_check(winter: u32, profile: u32, list: &[u8]) -> u3
     boundary::check_bytes(winter, profile, list)
 }
 
-// Settles a winter into a lent output: 0, or 65,536 times the refusal number plus the place.
+// Settles a winter into a lent output: 0, or number and place in one (rule 9.5).
 #[no_mangle]
 pub extern "C" fn ibisladder_settle(
     winter: u32,

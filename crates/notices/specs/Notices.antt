@@ -8,7 +8,7 @@ use lib.ListN.{length, getD}
 use Rattle.laws.specs.Sums.{sumTo}
 use Rattle.notices.specs.declared.notices.Notice.{Notice}
 
--- "A notice is three numbers: day, first hour s, end e"; "A list has 0 to 100 notices."
+-- rules 2.10 and 2.11: the numbers of a notice, and the notices of a list at most
 abbrev pub noticeNumbers : ℕ
 noticeNumbers = 3
 
@@ -19,14 +19,14 @@ mostNotices = 100
 abbrev pub longestList : ℕ
 longestList = noticeNumbers * mostNotices
 
--- so many notices stand in so many numbers, and in a list: as many as it has whole ones
+-- so many notices stand in so many numbers, and in a list: as many as it has whole ones (rule 2.11)
 abbrev pub countIn : ℕ → ℕ
 countIn numbers = numbers / noticeNumbers
 
 abbrev pub countOf : List ℕ → ℕ
 countOf l = countIn (length l)
 
--- no notice: no hours, on day 0
+-- no notice: no hours, on day 0 (rule 2.12)
 abbrev pub noNotice : Notice
 noNotice = record { day = 0; start = 0; end = 0 }
 
@@ -37,7 +37,7 @@ noticeFrom l i = record { day = getD l i 0; start = getD l (i + 1) 0; end = getD
 unfoldable pub noticeAt : List ℕ → ℕ → Notice
 noticeAt l k = cond (ltb k (countOf l)) (noticeFrom l (k * noticeNumbers)) noNotice
 
--- "its hours are s to e-1", so many
+-- rule 2.10: how many hours a notice has
 unfoldable pub hoursOf : Notice → ℕ
 hoursOf n = n .end - n .start
 

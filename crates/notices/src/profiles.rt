@@ -13,7 +13,7 @@ pub struct Band {
     pub end: u32,
 }
 
-// The figures of a profile: one column of document 01's table.
+// The figures of a profile: one column of section 3's table.
 pub struct Figures {
     pub morning: Band,
     pub evening: Band,
@@ -61,7 +61,7 @@ pub enum Named {
     NoProfile,
 }
 
-// The profile that document 01 numbers so, if there is one.
+// The profile of a number, if there is one.
 pub fn profile_named(number: u32) -> Named
     ensures { λ r. ⌜ r ≡ named number ⌝ }
 {

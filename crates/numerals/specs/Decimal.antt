@@ -1,5 +1,4 @@
--- A number as the bytes of its decimal digits.
--- "Numbers are decimal without sign, blanks or leading zeros".
+-- A number as the bytes of its decimal digits: rule 8.2.
 -- Assumes nothing.
 use Prim.Native.Nat.{ℕ, zero, suc, _+_, _-_, _*_, _/_, _%_}
 use mathlib.Core.Bool.{Bool, cond, _&&_}
@@ -23,6 +22,6 @@ unfoldable pub digitsIn : ℕ → ℕ → List ℕ
 digitsIn zero n = []
 digitsIn (suc most) n = cond (ltb n 10) (digitByte n ∷ []) (digitsIn most (n / 10) ++ (digitByte (n % 10) ∷ []))
 
--- the decimal digits of n, the most significant first; n has no more than n + 1 of them
+-- the decimal digits of n, the most significant first; n has no more than n + 1 of them (rule 8.2)
 unfoldable pub decimal : ℕ → List ℕ
 decimal n = digitsIn (suc n) n

@@ -1,5 +1,4 @@
--- Numbers and words at a position of a text.
--- "Numbers are decimal without sign, blanks or leading zeros, at most 4294967294."
+-- Numbers and words at a position of a text: rules 8.1 and 8.2.
 -- Assumes nothing.
 use Prim.Native.Nat.{ℕ, _+_, _-_, _≤_}
 use mathlib.Core.Bool.{cond}
@@ -18,7 +17,7 @@ use Rattle.numerals.specs.declared.fields.Step.the-variants as step
 abbrev pub largest : ℕ
 largest = 4294967294
 
--- a number that can be written
+-- a number that can be written (rule 8.2)
 abbrev pub Small : ℕ → Type 0
 Small n = n ≤ largest
 
@@ -33,7 +32,7 @@ digitsFrom [] p v = field.Broken
 digitsFrom (b ∷ l) p v =
     cond (isDigit b) (cond (ltb largest (withDigit v b)) field.Broken (digitsFrom l (p + 1) (withDigit v b))) (endFrom (b ∷ l) p v)
 
--- a number and the byte that ends it: 0 alone, or a digit from 1 on and the digits after it
+-- a number and the byte that ends it: 0 alone, or a digit from 1 on and the digits after it (rule 8.2)
 unfoldable pub fieldFrom : List ℕ → ℕ → Field
 fieldFrom [] p = field.Broken
 fieldFrom (b ∷ l) p =
@@ -64,6 +63,6 @@ abbrev pub afterStep : {A : Type 0} → A → Step → (ℕ → A) → A
 afterStep broken (step.To p) go = go p
 afterStep broken step.Broken go = broken
 
--- the number of a line that has a key and one number
+-- the number of a line that has a key and one number (rule 8.1)
 unfoldable pub keyedAt : List ℕ → ℕ → List ℕ → Number
 keyedAt s at key = afterStep number.Broken (wordAt s at key) (λ p. afterField number.Broken lineEnd (fieldAt s p) (λ v q. number.Is v q))

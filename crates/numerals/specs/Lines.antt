@@ -15,7 +15,7 @@ pub record Line : Type 0 where
 abbrev pub line : String → List ℕ → Line
 line key numbers = record { key = bytesOf key; fields = map decimal numbers }
 
--- the fields of a line, each ended by a comma and the last by byte 10; every line has at least one
+-- the fields of a line, each ended by a comma and the last by byte 10; every line has at least one (rule 8.1)
 unfoldable pub fieldBytes : List (List ℕ) → List ℕ
 fieldBytes [] = []
 fieldBytes (f ∷ []) = f ++ (lineEnd ∷ [])

@@ -24,10 +24,10 @@ endBefore more = cond more comma lineEnd
 abbrev pub fieldRoom : ℕ
 fieldRoom = 21
 
--- whether an output so long has not the room for a key and so many numbers from index `at` on
+-- whether an output so long has not the room for a key and so many numbers from index `at` on (rule 8.17)
 unfoldable pub noRoom : ℕ → ℕ → ℕ → ℕ → Bool
 noRoom long at key count = ltb long (at + key + fieldRoom * count)
 
--- what is put of a line of a key and numbers: all of it, or nothing where there is no room
+-- what is put of a line of a key and numbers: all of it, or nothing where there is no room (rule 8.17)
 unfoldable pub linePut : ℕ → ℕ → List ℕ → List ℕ → List ℕ
 linePut long at key ns = cond (noRoom long at (length key) (length ns)) [] (lineBytes (record { key = key; fields = map decimal ns }))

@@ -10,10 +10,10 @@ abbrev pub bytesOf : string.String → List ℕ
 bytesOf string.[] = []
 bytesOf (string._∷_ c s) = code c ∷ bytesOf s
 
--- a comma stands between the numbers of a line
+-- a comma stands between the numbers of a line (rule 8.1)
 abbrev pub comma : ℕ
 comma = 44
 
--- "Lines end in byte 10"
+-- rule 8.1: the byte that ends a line
 abbrev pub lineEnd : ℕ
 lineEnd = 10

@@ -7,22 +7,22 @@ use Rattle.laws.specs.Rows.{rowsTo}
 use Rattle.notices.specs.Notices.{countOf, noticeAt}
 use Rattle.numerals.specs.Lines.{Line, line, bytesOfLines}
 
--- "A refused text prints only the line `refused=number,place`, ended the same way."
+-- rule 8.13: the one line of a refusal
 unfoldable pub refusedLines : ℕ → ℕ → List Line
 refusedLines number place = line "refused=" (number ∷ place ∷ []) ∷ []
 
--- "`line=` holds day, s, e, code, place, energy, cents.", of the notice at index k, from the list and the settlement's output
+-- rule 8.12: the seven fields of the notice at index k, from the list and the settlement's output
 abbrev pub numbersAt : List ℕ → List ℕ → ℕ → List ℕ
 numbersAt l out k = noticeAt l k .day ∷ noticeAt l k .start ∷ noticeAt l k .end ∷ lineIn out k
 
 unfoldable pub noticeLine : List ℕ → List ℕ → ℕ → Line
 noticeLine l out k = line "line=" (numbersAt l out k)
 
--- "one `line=` for each notice", of the first k
+-- the lines of the first k notices
 abbrev pub noticeLines : List ℕ → List ℕ → ℕ → List Line
 noticeLines l out = rowsTo (λ (k : ℕ). noticeLine l out k ∷ [])
 
--- "winter, price and number of notices as read, one `line=` for each notice, then total energy and total cents."
+-- rule 8.11: all lines of a statement
 unfoldable pub statementLines : ℕ → ℕ → List ℕ → List ℕ → ℕ → ℕ → List Line
 statementLines winter price l out energy cents =
     line "winter=" (winter ∷ [])

@@ -1,6 +1,4 @@
--- The list check: its table of rules, in the order in which they are tried.
--- "Order: list check 1, 5, 4, then the notices; .. Numbers 10 to 18 are tried in that order for the first notice, then the next; the
--- place is the notice's index from 0."
+-- The list check: its table of rules, in the order in which they are tried (rules 4.20 and 4.21).
 -- Assumes nothing.
 use Prim.Native.Nat.{ℕ, zero, suc, _+_, _%_}
 use mathlib.Core.Bool.{Bool, true, false, not, _||_}
@@ -44,11 +42,11 @@ listRows f so n k =
     ∷ row 18 k (overLimit f so n)
     ∷ []
 
--- all its rules, in their order
+-- all its rules, in their order (rule 4.20)
 unfoldable pub noticeRows : Winter → Figures → Sofar → Notice → ℕ → List Row
 noticeRows w f so n k = ownRows w f n k ++ listRows f so n k
 
--- the last event so far and the hours so far: before the first notice none, and after a notice this one and its hours too
+-- the last event so far and the hours so far: before the first notice none, and after a notice this one and its hours too (rule 4.20)
 abbrev pub nothingBefore : Sofar
 nothingBefore = record { event = noNotice; hours = 0 }
 
@@ -66,11 +64,11 @@ rowsAt w f l k = noticeRows w f (sofarAt l k) (noticeAt l k) k
 abbrev pub noticesTable : Winter → Figures → List ℕ → List Row
 noticesTable w f l = rowsTo (rowsAt w f l) (countOf l)
 
--- "4: list not whole triples, or more than 100"
+-- rule 4.6: 4, no list has so many numbers
 unfoldable pub badList : ℕ → Bool
 badList length = not (eqb (length % noticeNumbers) 0) || ltb longestList length
 
--- "5: profile neither 1 nor 2"
+-- rule 4.7: 5, no profile is named so
 abbrev pub noProfile : Named → Bool
 noProfile (Is p) = false
 noProfile NoProfile = true
@@ -80,7 +78,7 @@ abbrev pub namedFigures : Named → Figures
 namedFigures (Is p) = figuresOf p
 namedFigures NoProfile = figuresOf Credit
 
--- the whole table, and the first row of it that is broken
+-- the whole table, and the first row of it that is broken (rule 4.21)
 unfoldable pub checkTable : ℕ → ℕ → List ℕ → List Row
 checkTable y q l =
     row 1 0 (noWinter y)
@@ -91,7 +89,7 @@ checkTable y q l =
 unfoldable pub checkAnswer : ℕ → ℕ → List ℕ → Answer
 checkAnswer y q l = firstOf (checkTable y q l)
 
--- the same for a profile and a winter's facts; anything may be handed over as these
+-- the same for a profile and a winter's facts; anything may be handed over as these (rules 1.18 and 4.21)
 unfoldable pub checkedIn : Winter → Profile → List ℕ → Answer
 checkedIn w p l =
     firstOf

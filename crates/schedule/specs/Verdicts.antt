@@ -1,4 +1,4 @@
--- Document 01's number and place for each case of a verdict.
+-- Number and place for each case of a verdict: rules 4.1 and 4.25.
 -- Assumes nothing.
 use Prim.Native.Nat.{ℕ}
 use mathlib.Core.List.{[], _∷_}

@@ -71,7 +71,7 @@ pub(crate) fn same_band(f: Figures, event: Notice, n: Notice) -> bool
     (event.day == n.day) & ((event.start < f.evening.start) == (n.start < f.evening.start))
 }
 
-// 18: the total hours pass the winter's limit with this notice.
+// 18: too many hours in the winter (rule 4.16).
 pub(crate) fn over_limit(f: Figures, so: Sofar, n: Notice) -> bool
     requires { ⌜ HoursFit so n ⌝ }
     ensures { λ r. ⌜ r ≡ overLimit f so n ⌝ }

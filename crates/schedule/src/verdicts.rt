@@ -3,7 +3,7 @@ ghost use mathlib.Core.Path.{_≡_};
 ghost use Rattle.laws.specs.Table.{isRefusal};
 ghost use Rattle.schedule.specs.Verdicts.{ruleNumber, numberOf, placeOf, verdictPaper};
 
-// The rules of the list check, one for each number of document 01's table.
+// The rules of the list check, one for each number that it gives.
 pub enum Rule {
     NoWinter,
     BadList,
@@ -24,7 +24,7 @@ pub enum Verdict {
     Refused(Rule, u32),
 }
 
-// Document 01's number of a rule.
+// The number of a rule.
 fn rule_number(rule: Rule) -> u32
     ensures { λ r. ⌜ r ≡ ruleNumber rule ⌝ }
 {

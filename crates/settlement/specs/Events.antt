@@ -10,11 +10,11 @@ use Rattle.event_hours.specs.Days.{masksOf}
 use Rattle.event_hours.specs.Events.{eventOn}
 use Rattle.notices.specs.Notices.{noticeAt}
 
--- the event that the notice at index k is
+-- the event that the notice at index k is (rule 7.8)
 unfoldable pub eventAt : ℕ → List ℕ → List ℕ → ℕ → Event
 eventAt y book l k = eventAnswer (winterOf y) book (masksOf l) (noticeAt l k) .event
 
--- the same as the code has it: by a winter's facts and some masks, the event being what these hold on the notice's day and in its band
+-- the same as the code has it: by a winter's facts and some masks, the event being what these hold on the notice's day and in its band (rule 2.15)
 unfoldable pub eventIn : Winter → List ℕ → List ℕ → List ℕ → ℕ → Event
 eventIn w book masks l k = eventAnswer w book masks (eventOn masks (noticeAt l k)) .event
 

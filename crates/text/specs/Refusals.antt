@@ -1,5 +1,4 @@
--- The refusals of a text.
--- "Order: .. text 32, 30, 1, 31, 3, 4, then the notices".
+-- The refusals of a text, in the order of rule 4.23.
 -- Assumes nothing.
 use Prim.Native.Nat.{ℕ}
 use mathlib.Core.Bool.{not}
@@ -17,11 +16,11 @@ use Rattle.notices.specs.declared.profiles.Profile.the-variants.{Credit}
 use Rattle.schedule.specs.ListCheck.{noticesTable, badList}
 use Rattle.text.specs.Values.{isBroken, brokenLine, winterSaid, priceSaid, misplacedSaid}
 
--- "32: text over 65,536 bytes"
+-- rule 4.19: the longest text that is read
 abbrev pub mostBytes : ℕ
 mostBytes = 65536
 
--- by the values of a text that has the form: winter, the first misplaced line or 0, price and list
+-- by the values of a text that has the form: winter, the first misplaced line or 0 (rule 4.18), price and list
 unfoldable pub valueRows : ℕ → ℕ → ℕ → List ℕ → List Row
 valueRows w line p l =
     row 1 0 (noWinter w)
@@ -30,7 +29,7 @@ valueRows w line p l =
     ∷ row 4 0 (badList (length l))
     ∷ noticesTable (winterOf w) (figuresOf Credit) l
 
--- the whole table, and the first row of it that is broken
+-- the whole table, and the first row of it that is broken; rule 4.17 comes before any value is looked at
 unfoldable pub textTable : List ℕ → List Row
 textTable s =
     row 32 0 (ltb mostBytes (length s))

@@ -19,7 +19,7 @@ use Rattle.text.specs.Values.{winterSaid, priceSaid, bookSaid}
 abbrev pub roomFor : List ℕ → ℕ
 roomFor l = lineNumbers * countOf l
 
--- the settlement of winter, book, price and list, printed
+-- the settlement of winter, book, price and list, printed (rule 8.10)
 unfoldable pub settledBytes : ℕ → List ℕ → ℕ → List ℕ → List ℕ
 settledBytes w book p l =
     let s = settlement w book p l (roomFor l) in
@@ -29,11 +29,11 @@ settledBytes w book p l =
 unfoldable pub toldBytes : Answer → List ℕ → List ℕ
 toldBytes refusal statement = cond (isRefusal refusal) (refusedBytes (refusal .number) (getD (refusal .values) 0 0)) statement
 
--- the bytes of the statement of a text, or of its refusal
+-- the bytes of the statement of a text, or of its refusal (rule 4.19)
 unfoldable pub statementOf : List ℕ → List ℕ
 statementOf s = toldBytes (textRefusal s) (settledBytes (winterSaid s) (bookSaid s) (priceSaid s) (noticesSaid s))
 
--- the bytes that every answer has room in; an output with fewer gets none
+-- the bytes that every answer has room in; an output with fewer gets none (rule 8.15)
 abbrev pub answerRoom : ℕ
 answerRoom = 20480
 
@@ -44,10 +44,10 @@ tooSmall out = ltb (length out) answerRoom
 abbrev pub startsWith : List ℕ → List ℕ → List ℕ
 startsWith bytes out = bytes ++ drop (length bytes) out
 
--- how many bytes the call on a text answers
+-- how many bytes the call on a text answers (rule 8.14)
 unfoldable pub answered : List ℕ → List ℕ → ℕ
 answered s out = cond (tooSmall out) 0 (length (statementOf s))
 
--- and what it leaves in the output
+-- and what it leaves in the output (rule 8.14)
 unfoldable pub answeredIn : List ℕ → List ℕ → List ℕ
 answeredIn s out = cond (tooSmall out) out (startsWith (statementOf s) out)

@@ -37,7 +37,7 @@ priceSaid s = shapeIn (formOf s) .price
 abbrev pub misplacedSaid : List ℕ → ℕ
 misplacedSaid s = shapeIn (formOf s) .misplaced
 
--- "Unlisted hours are missing.": the book of a winter before a reading is put into it
+-- rule 8.9: the book of a winter before a reading is put into it
 abbrev pub noReadings : ℕ → List ℕ
 noReadings w = replicate (bookLength (days w)) missingMark
 

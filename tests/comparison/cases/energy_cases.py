@@ -162,8 +162,8 @@ def one_fault():
 
 
 def several_faults():
-    """Several faults, and highest readings among them: the first fault in document 01's
-    order decides."""
+    """Several faults, and highest readings among them: the first fault in the order
+    of rule 5.7 decides."""
     source = random.Random(SEED)
     cases = []
     for winter, count in product(winters.WINTERS, (2, 2, 3, 4, 6, 12, 18)):

@@ -1,7 +1,7 @@
 """Events, lists and books for the energy tests, most of them with an answer known beforehand.
 
-Books are built from document 01's sums R, B, A and C: readings are chosen that have these
-sums, and document 01's formula gives the energy. The second program is asked only where
+Books are built from the sums R, B, A and C: readings are chosen that have these sums, and
+the formula of section 6 gives the energy. The second program is asked only where
 the needed readings are. `source` is a seeded random.Random everywhere.
 """
 
@@ -127,12 +127,12 @@ def references(query):
 
 
 def needed(query):
-    """The hours of the needed readings as pairs (day, hour), in document 01's order."""
+    """The hours of the needed readings as pairs (day, hour), in the order of rule 5.7."""
     return energies.needed_hours(query.event(), references(query))
 
 
 def lengths(query):
-    """Document 01's H and W."""
+    """H and W."""
     return len(query.event().hours()), len(energies.warm_up_hours(query.event()))
 
 
@@ -140,7 +140,7 @@ def lengths(query):
 
 
 class Sums(NamedTuple):
-    """Document 01's R, B, A and C."""
+    """R, B, A and C: rules 6.3 and 6.4."""
     r: int
     b: int
     a: int
@@ -148,7 +148,7 @@ class Sums(NamedTuple):
 
 
 def formula_energy(h, w, sums):
-    """The spared energy by document 01's formula, letter by letter."""
+    """The spared energy by the formula of section 6, letter by letter."""
     r, b, a, c = sums
     stands = 3 * a - b
     trial = 6 * r + stands * 6 * h // w - 18 * c

@@ -1,4 +1,4 @@
-"""Document 01's figures, and what is asked for each: of the layers, from C, and as a text.
+"""The figures of docs/RULES.md, and what is asked for each: of the layers, from C, and as a text.
 
 A figure on a layer is a name, a query and the answer. Where it takes several queries, or all
 that a settlement says, it is a name and cases, each built for number and place, and for its

@@ -1,6 +1,6 @@
 """Lists of notices for the tests: valid ones of many shapes, and ways to spoil them.
 
-Valid lists are built by what document 01 allows, and each way of spoiling brings in one
+Valid lists are built by what the rules allow, and each way of spoiling brings in one
 fault of a known number at a known place, so the right answer is known without a check.
 A notice is (day, s, e). A slot is a day and a band in the same form; it has room for one
 event. `source` is a seeded random.Random everywhere.

@@ -122,7 +122,7 @@ def book_of_sums(source, winter, notice, sums):
 
 
 def needed_places(winter, listed, notice):
-    """Where the book has a notice's needed readings, in document 01's order."""
+    """Where the book has a notice's needed readings, in the order of rule 5.7."""
     day, *_ = notice
     with_events = {on for on, _, _ in listed}
     references = energies.reference_days(winter, with_events, day)

@@ -72,7 +72,7 @@ class Parts(NamedTuple):
     reads: list
 
     def text(self):
-        """The text in document 01's form, line by line."""
+        """The text in its form, line by line."""
         lines = [
             f"winter={self.winter}",
             f"price={self.price}",

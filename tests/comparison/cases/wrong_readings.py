@@ -1,4 +1,4 @@
-"""Wrong readings of document 01, those that it calls easy to get wrong, each in a few lines.
+"""Wrong readings of the rules, those that docs/RULES.md warns of at its end, each in a few lines.
 
 A reading is a way to work out the lines of a settlement. It is right where nothing else is
 said, so a wrong one differs in one point only.
@@ -88,7 +88,7 @@ def each_line_by_itself(amounts, price):
 
 
 class Reading(NamedTuple):
-    """A way to read document 01, right where nothing else is said."""
+    """A way to read the rules, right where nothing else is said."""
     days: Callable = whole_day_out
     usual: Callable = one_value_at_each_hour
     formula: Callable = formula_energy

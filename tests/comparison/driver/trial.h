@@ -1,7 +1,7 @@
 /* One call of the library, made again and elsewhere, and held to all that it may not do.
  *
  * Whatever is lent, a call must touch nothing beside it, leave the list and the book as they
- * were, and give an answer that document 01 allows. A refusal must leave the output as it was,
+ * were, and give an answer that the rules allow. A refusal must leave the output as it was,
  * an accepted call all that is behind the last line. The same call must give the same answer
  * and the same lines once more, in other places, and over another output. The first difference
  * is said, and ends the program with exit status 1. */

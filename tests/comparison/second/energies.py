@@ -1,8 +1,8 @@
-"""The second program's spared energy: document 01's article 2.59, told by averages.
+"""The second program's spared energy: sections 5 and 6 of docs/RULES.md, told by averages.
 
 The needed readings are a dictionary by (day, hour), an hour's usual reading is the average
 of the three in the middle of a sorted list, and energies are fractions of a Wh. Only what
-is printed is turned into eighteenths. Where document 01 leaves something open, a comment
+is printed is turned into eighteenths. Where the specification leaves something open, a comment
 names the entry of docs/DECISIONS.md that settles it.
 """
 
@@ -32,7 +32,7 @@ LONGEST_BOOK = 3672
 
 
 class Query(NamedTuple):
-    """A call that settles one event, with the list and the book lent to it. Document 01 has no
+    """A call that settles one event, with the list and the book lent to it. The specification has no
     such call, and this one takes any list. The book has `length` numbers drawn from the seed,
     and the changes, pairs (index, value), over them."""
     winter: int
@@ -124,7 +124,7 @@ def days_with_events(listed):
 @lru_cache(maxsize=1)
 def marked_hours(numbers):
     """The hours that any list marks, as a set for each day. Of lists that are not accepted
-    document 01 says nothing. That a notice marks nothing where it names no hours of a day that
+    the specification says nothing. That a notice marks nothing where it names no hours of a day that
     a book can have, and that numbers over from whole triples are passed over, is a choice of
     ours: "Lists that were not accepted"."""
     hours = defaultdict(set)

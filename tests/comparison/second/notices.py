@@ -1,4 +1,4 @@
-"""The second program's list check: document 01's notices, told by sets of hours.
+"""The second program's list check: the notices of docs/RULES.md, told by sets of hours.
 
 A band is a set of hours, the event hours of a list are a set of pairs (day, hour), and a
 rule is a refusal number with a test.
@@ -16,7 +16,7 @@ MOST_NOTICES = 100
 
 @dataclass(frozen=True)
 class Profile:
-    """One column of document 01's table."""
+    """The figures of a profile: rules 3.1, 3.2, 3.3 and 3.4."""
     bands: tuple
     weekends: bool
     lengths: frozenset

@@ -1,6 +1,7 @@
 """The numbers that each call can give: refusal numbers, 0 for none, and the codes of events.
 
-The tests hold the library and the second program to them: each is given, and no other is.
+The tests hold the library and the second program to them: each is given, and no other is
+(rule 4.26).
 """
 
 # By profile. Under profile 1 hours inside one band always have an allowed length, so 14 is

@@ -1,4 +1,4 @@
-"""The second program's settlement: document 01's money and its boundary to C.
+"""The second program's settlement: sections 7 and 9 of docs/RULES.md.
 
 What a line is worth is a fraction of a cent, and a rounding is a whole number by the floor
 of a fraction. At the boundary the lent slices are bytes and the answer is one number.
@@ -20,7 +20,7 @@ WH_OF_A_KWH = 1_000
 # The output's numbers for a notice.
 LINE_NUMBERS = 4
 
-# Bytes of a number lent to a call, and of a number of the lent output.
+# Bytes of a number lent to a call, and of a number of the lent output: rule 9.2.
 LENT_BYTES = 4
 OUTPUT_BYTES = 8
 
@@ -96,7 +96,7 @@ CALL_RULES = (
 
 
 def worth(energy, price):
-    """What an energy, in eighteenths of a Wh, is worth in cents, exactly."""
+    """What an energy, in eighteenths of a Wh, is worth in cents, exactly: rule 7.2."""
     kwh = Fraction(energy, energies.EIGHTEENTHS) / WH_OF_A_KWH
     return kwh * Fraction(price, THOUSANDTHS_OF_A_CENT)
 

@@ -1,4 +1,4 @@
-"""The second program's statement: document 01's text, told by one pattern for each line.
+"""The second program's statement: section 8 of docs/RULES.md, told by one pattern for each line.
 
 A text is split at every byte 10, a line is numbers if its pattern fits it as a whole, and
 the settlement is the second program's own. A refusal is an exception that carries its
@@ -19,7 +19,7 @@ from second.notices import MOST_NOTICES
 
 LONGEST_TEXT = 65_536
 
-# The bytes that the call on a text asks of its output. Document 01 says nothing of an output that
+# The bytes that the call on a text asks of its output. The specification says nothing of an output that
 # is too small: a choice of ours, "An output that is too small" in docs/DECISIONS.md.
 ROOM = 20_480
 
@@ -125,7 +125,7 @@ def said(text):
     lines = Lines(text)
     winter = lines.take_one(WINTER)
     price = lines.take_one(PRICE)
-    # A text may name far more lines than it has: the first one that is missing ends this.
+    # A text may name far more lines than it has (rule 8.7): the first that is missing ends this.
     listed = [lines.take(EVENT) for _ in range(lines.take_one(EVENTS))]
     reads = [taken_read(lines) for _ in range(lines.take_one(READS))]
     lines.end()
@@ -187,7 +187,7 @@ def printed(told, given):
 
 
 def statement(text):
-    """What `statement` prints for a text."""
+    """What `statement` prints for a text: its statement, or rule 8.13's line."""
     try:
         if len(text) > LONGEST_TEXT:
             raise Refused(32)

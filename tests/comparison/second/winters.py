@@ -1,8 +1,8 @@
-"""The second program's calendar: document 01's winters, told by Python's own dates.
+"""The second program's calendar: the winters of docs/RULES.md, told by Python's own dates.
 
 A winter's book is the list of its dates, a day is a place in that list, and
 weekdays are those of `datetime`. Each call gives a pair: the refusal number
-(0 if none) and the values. Where document 01 leaves something open, a comment
+(0 if none) and the values. Where the specification leaves something open, a comment
 names the entry of docs/DECISIONS.md that settles it.
 """
 
@@ -20,7 +20,7 @@ SATURDAY = 6
 ONE_DAY = timedelta(1)
 
 # The Paschal full moon (month, day) by golden number, 1 to 19, as church calendars
-# print it for 1900 to 2199. A table on purpose: document 01 has a formula, and the
+# print it for 1900 to 2199. A table on purpose: rule 1.13 has a formula, and the
 # second program is to reach the same Easter by another way.
 PASCHAL_FULL_MOONS = (
     (4, 14), (4, 3), (3, 23), (4, 11), (3, 31), (4, 18), (4, 8), (3, 28), (4, 16), (4, 5),
@@ -67,7 +67,7 @@ def excluded_dates(winter):
 
 
 def is_weekend(on):
-    """Whether a date is a Saturday or a Sunday."""
+    """Whether a date is a Saturday or a Sunday: rule 1.9."""
     return on.isoweekday() in (SATURDAY, SUNDAY)
 
 
@@ -97,7 +97,7 @@ def told_of_day(winter, day, tell):
 
 
 def weekday(winter, day):
-    """0 for Sunday to 6 for Saturday. Document 01 has the names of weekdays and no numbers:
+    """0 for Sunday to 6 for Saturday. The specification has the names of weekdays and no numbers:
     these are a choice of ours, "The numbers of weekdays"."""
     return told_of_day(winter, day, lambda on: (on.isoweekday() % 7,))
 
@@ -119,7 +119,7 @@ def date_of_day(winter, day):
 
 
 def book_day(winter, month, day_of_month):
-    """The book day of a date. Document 01 has no such call. That a date which the book has not
+    """The book day of a date. The specification has no such call. That a date which the book has not
     gets 10, after 1 for the winter, is a choice of ours: "A date that the book has not"."""
     if winter not in WINTERS:
         return WRONG_WINTER, ()
