@@ -6,7 +6,7 @@ ghost use Rattle.boundary.specs.Whole.{Lengths, JustRoom, wholeNumbers, 
 use crate::lent::numbers_in;
 use crate::packing::pack;
 
-// SettledBytes numbers into lines, for which there is just the room, and writes the bytes of the lines.
+// Settles numbers into lines, for which there is just the room, and writes the bytes of the lines.
 fn settle_numbers(
     winter: u32,
     book: &[u32],

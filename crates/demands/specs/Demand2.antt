@@ -35,7 +35,8 @@ pub record FiveNearest (winter : ℕ) (list : List ℕ) (day : ℕ) (refs : List
   pub nearest-first : (i j : ℕ) → i < j → j < length refs → getD refs j 0 < getD refs i 0
   pub no-nearer : (d : ℕ) → Serves winter list day d → (List·Memᴰ d refs → ⊥) → Every (λ (r : ℕ). d < r) refs
 
--- rules 5.9, 5.10 and 5.11, a line that is left unsettled: no energy, and the first needed place that holds no reading, with 21 for a missing one and 22 for one too large
+-- rules 5.9, 5.10 and 5.11, a line that is left unsettled: no energy, and the first needed place that holds no reading, with 21 where it is
+-- missing and 22 where it is too large
 pub record Unsettled (book places : List ℕ) (code place energy : ℕ) : Type 0 where
   pub no-energy : energy ≡ 0
   pub first : FaultyAt book places place

@@ -1,5 +1,5 @@
--- Demand 3 (rules 10.6, 10.7, 10.8 and 10.9), of a sheet of lines at one price and its two totals: the cents of any run of lines against what its energy is worth exactly, in
--- parts of a cent; no line below 0; the totals.
+-- Demand 3 (rules 10.6, 10.7, 10.8 and 10.9), of a sheet of lines at one price and its two totals: the cents of any run of lines against what
+-- their energy is worth exactly, in parts of a cent; no line below 0; the totals.
 -- Assumes nothing.
 use Prim.Native.Nat.{ℕ, suc, _+_, _*_, _≤_, _<_}
 use mathlib.Core.Path.{_≡_}
