@@ -1,7 +1,6 @@
 // Runs of values, in a book or in a day's part of one. What lies past the end is not looked at.
 ghost use mathlib.Core.Path.{_≡_};
 ghost use Prim.Native.Nat.{min};
-ghost use lib.ListN.{length};
 ghost use Rattle.book.specs.Places.{run};
 ghost use Rattle.book.specs.Readings.{readingAt, firstFault, RunSum};
 use crate::values::Fault;

@@ -1,6 +1,5 @@
 // The settlement of a winter.
 ghost use mathlib.Core.Path.{_≡_};
-ghost use Prim.Native.Nat.{_*_, _≤_};
 ghost use lib.ListN.{length};
 ghost use Rattle.event_hours.specs.Days.{masksOf};
 ghost use Rattle.notices.specs.Notices.{countOf};

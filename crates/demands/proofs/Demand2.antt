@@ -21,7 +21,7 @@ use Rattle.references.specs.ReferenceDays.{freeIn}
 use Rattle.event_hours.specs.Days.{masksOf}
 use Rattle.laws.proofs.Tells.{placeIn}
 use Rattle.laws.specs.Answer.{Answer}
-use Rattle.laws.specs.Table.{accepted, isRefusal}
+use Rattle.laws.specs.Table.{accepted}
 use Rattle.form.specs.Document.{Document, noticesIn}
 use Rattle.form.specs.Form.{noticesSaid}
 use Rattle.form.specs.Places.{bookIn}

@@ -1,7 +1,7 @@
 -- Whatever numbers of 32 bits can be settled or checked can be lent from C as bytes, with the same answer: so what is said of the calls from C is
 -- said of them all.
 -- Assumes nothing.
-use Prim.Native.Nat.{ℕ, _/_, _%_}
+use Prim.Native.Nat.{ℕ, _/_}
 use mathlib.Core.List.{List}
 use mathlib.Core.Path.{_≡_, ap, _∙_}
 use native.Mathlib.Omega.{arith}

@@ -11,14 +11,13 @@ use Rattle.boundary.specs.Calls.{settleCall, settleBytes}
 use Rattle.boundary.specs.Lent.{decoded}
 use Rattle.credit.proofs.Exact.{accepted-iff-settles}
 use Rattle.credit.proofs.SettlementLaws.{settled-room, written-just}
-use Rattle.credit.specs.Lines.{lineNumbers, linesTo}
+use Rattle.credit.specs.Lines.{lineNumbers}
 use Rattle.credit.specs.Settlement.{settlement, written}
 use Rattle.credit.specs.declared.call.Settlement.{Settlement}
 use Rattle.notices.specs.Notices.{countOf}
-use Rattle.settlement.specs.Events.{eventAt}
 use Rattle.wire.proofs.RoundTrip.{written-back}
 use Rattle.wire.specs.Bytes.{bytesTo}
-use Rattle.demands.specs.Faces.{Sheet, number64, inOutput, inBytes}
+use Rattle.demands.specs.Faces.{number64, inOutput, inBytes}
 use Rattle.demands.proofs.Sheets.{Same}
 use Rattle.demands.proofs.Small.{line-fits}
 

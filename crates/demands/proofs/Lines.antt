@@ -1,13 +1,13 @@
 -- The line of an event of an accepted list, joined from the laws of the layers: reference days by masks are those by notices, five are always
 -- found, and what the first fault tells decides.
 -- Assumes nothing.
-use Prim.Native.Nat.{ℕ, _*_, _%_, _≤_, _<_}
+use Prim.Native.Nat.{ℕ, _≤_}
 use mathlib.Core.Bool.{Bool, true}
-use mathlib.Core.List.{List, List·Memᴰ}
+use mathlib.Core.List.{List}
 use mathlib.Core.Logic.{inl, inr, _↔_}
-use mathlib.Core.Path.{_≡_, refl, sym, ap, _∙_}
+use mathlib.Core.Path.{_≡_, refl, ap}
 use native.Mathlib.Omega.{arith}
-use lib.ListN.{length, getD}
+use lib.ListN.{length}
 use Rattle.book.proofs.FirstFault.{Holds, FaultTells}
 use Rattle.book.specs.Readings.{firstFault}
 use Rattle.book.specs.declared.values.Fault.the-variants.{Clean, Missing, TooLarge}
@@ -17,19 +17,19 @@ use Rattle.references.proofs.FiveFound.{free-zero, why-serves, serves-so, five-
 use Rattle.references.proofs.ReferenceLaws.{zero-free}
 use Rattle.energy.proofs.HourLaws.{whole-factor}
 use Rattle.references.proofs.Nearest.{Passes, refs-serve, refs-fall, refs-all}
-use Rattle.energy.proofs.Unsettled.{AllThere, FewRefs, ByReadings, Why, line-why, settled-where, settled-only}
+use Rattle.energy.proofs.Unsettled.{Why, line-why, settled-where, settled-only}
 use Rattle.energy.specs.Asked.{Asked, askedWith, needed}
 use Rattle.energy.specs.Energy.{energyOf}
 use Rattle.energy.specs.Line.{settled, byFault, lineOf}
 use Rattle.references.specs.ReferenceDays.{freeIn, serves, referenceDays}
 use Rattle.energy.specs.declared.events.Event.{Event}
-use Rattle.event_hours.proofs.FreeDays.{NoEvent, mask-free, quiet}
+use Rattle.event_hours.proofs.FreeDays.{mask-free, quiet}
 use Rattle.event_hours.specs.Days.{masksOf}
 use Rattle.laws.proofs.Every.{Every, imply}
 use Rattle.notices.specs.declared.notices.Notice.{Notice}
 use Rattle.notices.specs.declared.profiles.Figures.{Figures}
 use Rattle.schedule.proofs.Standing.{Standing}
-use Rattle.demands.specs.Demand2.{Serves, FiveNearest, Unsettled, SaysOf, EventLine}
+use Rattle.demands.specs.Demand2.{Serves, FiveNearest, Unsettled, EventLine}
 
 -- reference days by the masks of a list that stands are those by its notices
 module _ {y : ℕ} {f : Figures} {l : List ℕ} (st : Standing y f l) (day : ℕ) where

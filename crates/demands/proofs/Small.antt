@@ -1,9 +1,9 @@
 -- The numbers of an accepted settlement's lines fit 64 bits: codes and places by what a line can say, energies by the largest, and cents by the
 -- worth of all of them at the highest price.
 -- Assumes nothing.
-use Prim.Native.Nat.{ℕ, suc, _+_, _*_, _^_, _≤_, _<_}
+use Prim.Native.Nat.{ℕ, suc, _^_, _≤_, _<_}
 use mathlib.Core.List.{List}
-use mathlib.Core.Path.{_≡_, sym, ap, _∙_}
+use mathlib.Core.Path.{_≡_, sym, ap}
 use native.Mathlib.Omega.{arith}
 use lib.ListN.{length}
 use Rattle.calendar.specs.WinterOf.{winterOf}
@@ -22,7 +22,7 @@ use Rattle.energy.specs.Line.{EventAnswer, lineOf, eventAnswer}
 use Rattle.energy.specs.declared.events.Event.{Event}
 use Rattle.event_hours.specs.Days.{masksOf}
 use Rattle.laws.proofs.SumLaws.{run-first, sum-grows}
-use Rattle.laws.specs.Bounds.{largestEnergy, largestPlace}
+use Rattle.laws.specs.Bounds.{largestEnergy}
 use Rattle.laws.specs.Sums.{runOf}
 use Rattle.money.proofs.WorthLaws.{worth-nearest, worth-fits}
 use Rattle.money.specs.Worth.{mostEnergy}
@@ -35,7 +35,7 @@ use Rattle.schedule.proofs.Accepted.{accepted-iff-lawful}
 use Rattle.schedule.proofs.Standing.{Standing}
 use Rattle.schedule.proofs.Together.{accepted-standing}
 use Rattle.settlement.proofs.EventLaws.{energies-bounded, same-event}
-use Rattle.settlement.specs.Events.{eventAt, eventIn, energyAt}
+use Rattle.settlement.specs.Events.{eventAt, eventIn}
 use Rattle.demands.specs.Faces.{Sheet, inOutput}
 
 pub record SmallLine (s : Sheet) (k : ℕ) : Type 0 where

@@ -1,6 +1,6 @@
 -- Theorems over all 89 winters, each by one test that antt computes: Easter is a Sunday by the book's weekdays, and the years join up.
 -- Assumes nothing.
-use Prim.Native.Nat.{ℕ, _+_, _-_, _≤_}
+use Prim.Native.Nat.{ℕ, _+_, _≤_}
 use mathlib.Core.Bool.{Bool, false, cond}
 use mathlib.Core.Path.{_≡_}
 use native.Mathlib.Omega.{arith}

@@ -4,16 +4,16 @@
 -- Assumes nothing.
 use Prim.Native.Nat.{ℕ, suc, _+_, _-_, _≤_}
 use mathlib.Core.List.{List, [], _∷_, _++_, append-assoc, map, map-append}
-use mathlib.Core.Path.{_≡_, refl, ap, _∙_}
+use mathlib.Core.Path.{_≡_, ap, _∙_}
 use native.Mathlib.Omega.{arith}
 use lib.ListN.{length, take, replicate, length-append, length-map, length-replicate}
 use lib.Seq.{take-append-le, take-append-add}
 use Rattle.laws.proofs.Every.{joined}
 use Rattle.numerals.specs.Fields.{keyedAt}
-use Rattle.numerals.specs.Lines.{Line, line}
+use Rattle.numerals.specs.Lines.{line}
 use Rattle.numerals.specs.Words.{bytesOf}
 use Rattle.numerals.specs.declared.fields.Number.the-variants as number
-use Rattle.form.specs.Document.{Document, eventLine, readLine, documentLines, SmallEvent, SmallRead}
+use Rattle.form.specs.Document.{eventLine, readLine, documentLines, SmallEvent, SmallRead}
 use Rattle.form.specs.Lines.{eventLineAt, readLineAt, linesEnd}
 use Rattle.form.specs.declared.lines.Lines.the-variants as lines
 use Rattle.form.proofs.Begins.{bodyLines, document-long, Begins, FirstBrokenLine, next-breaks, begins, anyEvent, anyRead, small-events, small-reads}

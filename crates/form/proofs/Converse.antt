@@ -1,7 +1,7 @@
 -- A text that has the form is the text of some values that can be written in it: its lines one after the other, and nothing follows.
 -- Assumes nothing.
 use Prim.Native.Nat.{ℕ, _+_}
-use mathlib.Core.List.{List, [], _∷_, _++_, map}
+use mathlib.Core.List.{List, [], _∷_, map}
 use mathlib.Core.Path.{_≡_, refl, ap, _∙_}
 use native.Mathlib.Omega.{arith}
 use lib.Dec.{eqb}
@@ -11,12 +11,12 @@ use Rattle.laws.proofs.Every.{Every}
 use Rattle.numerals.proofs.Here.{Here, here-then, here-whole}
 use Rattle.numerals.proofs.LineLaws.{lines-more, lines-append}
 use Rattle.numerals.proofs.Ways.{first, after-number}
-use Rattle.numerals.proofs.WrittenFields.{KeyedWritten, keyed-written}
+use Rattle.numerals.proofs.WrittenFields.{keyed-written}
 use Rattle.numerals.specs.Fields.{Small, keyedAt}
 use Rattle.numerals.specs.Lines.{line, bytesOfLines}
 use Rattle.numerals.specs.Words.{bytesOf}
 use Rattle.numerals.specs.declared.fields.Number.the-variants as number
-use Rattle.form.specs.Document.{ReadLine, Document, eventNumbers, eventLine, readLine, documentLines, textOf, SmallEvent, SmallRead, Writable}
+use Rattle.form.specs.Document.{ReadLine, Document, readLine, documentLines, textOf, SmallRead, Writable}
 use Rattle.form.specs.Form.{topOf, afterTop, restOf, formOf}
 use Rattle.form.specs.Lines.{afterLines, eventLineAt, readLineAt, linesEnd}
 use Rattle.form.specs.declared.lines.Lines.{Lines}
@@ -25,7 +25,7 @@ use Rattle.form.specs.declared.whole.Form.the-variants as form
 use Rattle.form.specs.declared.whole.Shape.{Shape}
 use Rattle.form.specs.declared.whole.Top.{Top}
 use Rattle.form.specs.declared.whole.Top.the-variants as top
-use Rattle.form.proofs.LineKinds.{LinesWritten, lines-written}
+use Rattle.form.proofs.LineKinds.{lines-written}
 use Rattle.form.proofs.TextLines.{events, reads}
 
 -- a text whose form is broken has no form, and a top that is broken is none

@@ -1,13 +1,12 @@
 -- The form of a text and what it says, by the ways on which the walk comes to its end: one law for each.
 -- Assumes nothing.
 use Prim.Native.Nat.{ℕ, _+_}
-use mathlib.Core.List.{List, [], flatten}
-use mathlib.Core.Path.{_≡_, refl, sym, ap, _∙_}
+use mathlib.Core.List.{List, flatten}
+use mathlib.Core.Path.{_≡_, refl, ap, _∙_}
 use native.Mathlib.Omega.{arith}
 use lib.ListN.{length}
 use lib.Seq.{sets}
 use borrow.Author.Tests.{eq-eqb, ne-eqb}
-use Rattle.laws.specs.Answer.{Answer}
 use Rattle.numerals.specs.Fields.{keyedAt}
 use Rattle.numerals.specs.Words.{bytesOf}
 use Rattle.numerals.specs.declared.fields.Number.the-variants as number

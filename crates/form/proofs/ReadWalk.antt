@@ -3,7 +3,7 @@
 -- Assumes nothing.
 use Prim.Native.Nat.{ℕ, _+_, _-_, _≤_, _<_}
 use mathlib.Core.Bool.{Bool, true, false, cond}
-use mathlib.Core.List.{List, [], _∷_}
+use mathlib.Core.List.{List, _∷_}
 use mathlib.Core.Path.{_≡_, refl, sym, ap, _∙_}
 use native.Mathlib.Omega.{arith}
 use lib.Dec.{eqb}
@@ -16,7 +16,7 @@ use Rattle.numerals.specs.declared.fields.Step.{Step}
 use Rattle.numerals.specs.declared.fields.Step.the-variants as step
 use Rattle.form.specs.Document.{ReadLine}
 use Rattle.form.specs.Lines.{readLineAt, linesEnd, linesSaid}
-use Rattle.form.specs.Places.{hourPlace, startOf, endOf, misplacedBy, misplaced, misplacedIn, putRead, bookIn, hoursTold, placedLines}
+use Rattle.form.specs.Places.{hourPlace, startOf, endOf, misplacedBy, misplaced, misplacedIn, bookIn, hoursTold, placedLines}
 use Rattle.form.specs.declared.lines.Hours.the-variants as hours
 use Rattle.form.specs.declared.lines.Placed.{Placed}
 use Rattle.form.specs.declared.lines.Placed.the-variants as placed

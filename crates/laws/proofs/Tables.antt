@@ -12,7 +12,7 @@ use borrow.Author.Tests.{eqb-true, not-false}
 use Rattle.laws.specs.Answer.{Answer, refuse}
 use Rattle.laws.specs.Bounds.{largestNumber, largestPlace}
 use Rattle.laws.specs.Table.{accepted, refusalAt, Row, row, toldBy, firstOf, isRefusal}
-use Rattle.laws.proofs.Every.{Every, right}
+use Rattle.laws.proofs.Every.{Every}
 use Rattle.laws.proofs.Refusals.{refused, kept}
 
 -- the numbers of a table's rows are refusal numbers

@@ -2,10 +2,10 @@
 -- is within a cent of the exact worth of the run, and within half a cent if the run starts at the first.
 -- Assumes nothing.
 use Prim.Native.Nat.{ℕ, suc, _+_, _-_, _*_}
-use mathlib.Core.Path.{_≡_, refl, _∙_}
+use mathlib.Core.Path.{_≡_, refl}
 use native.Mathlib.Nat.{zero-add}
 use native.Mathlib.Omega.{arith}
-use Rattle.laws.proofs.SumLaws.{sum-none, sum-next, sum-same, sum-run, run-first, run-carries}
+use Rattle.laws.proofs.SumLaws.{sum-none, sum-next, sum-run, run-first, run-carries}
 use Rattle.laws.specs.Sums.{sumTo, runOf}
 use Rattle.money.specs.Cents.{centsAt}
 use Rattle.money.specs.Worth.{centParts, exactWorth, roundedWorth}

@@ -1,8 +1,8 @@
 -- What a price that is not refused is, and what the call on an energy answers, one law for each way out.
 -- Assumes nothing.
 use Prim.Native.Nat.{ℕ, _≤_, _<_}
-use mathlib.Core.Bool.{true, false, _||_}
-use mathlib.Core.Path.{_≡_, refl}
+use mathlib.Core.Bool.{true, false}
+use mathlib.Core.Path.{_≡_}
 use lib.Dec.{ltb}
 use borrow.Author.Tests.{ltb-false, le-ltb, lt-ltb}
 use Rattle.laws.proofs.Guards.{neither, no-fault}

@@ -1,7 +1,7 @@
 -- The digits of a number: one below 10, else those of its tenth and one more; at most 20 for a number of 64 bits; each the byte of a digit;
 -- and none of them leads with 0 but in 0 itself. Proved by recursion on how many digits are allowed, on which the digits do not depend.
 -- Assumes nothing.
-use Prim.Native.Nat.{ℕ, zero, suc, _+_, _-_, _*_, _/_, _%_, _^_, _≤_, _<_}
+use Prim.Native.Nat.{ℕ, zero, suc, _+_, _*_, _/_, _%_, _^_, _≤_, _<_}
 use mathlib.Core.Bool.{Bool, true, false, cond}
 use mathlib.Core.List.{List, [], _∷_, _++_}
 use mathlib.Core.Logic.{_⊎_, ⊎-elim}

@@ -1,21 +1,17 @@
 -- Laws of what is put: parts one after the other, digits, fields, keys, the numbers of a line and lines.
 -- Assumes nothing.
-use Prim.Native.Nat.{ℕ, suc, _+_, _*_, _/_, _%_, _≤_, _<_}
-use mathlib.Core.Bool.{true, false}
-use mathlib.Core.List.{List, [], _∷_, _++_, append-assoc, map}
+use Prim.Native.Nat.{ℕ, _+_, _/_, _%_, _≤_, _<_}
+use mathlib.Core.List.{List, [], _∷_, _++_}
 use mathlib.Core.Path.{_≡_, refl, sym, ap, _∙_}
 use native.Mathlib.Numerals.{add-one}
 use native.Mathlib.Omega.{arith}
-use lib.Dec.{ltb}
-use lib.ListN.{length, set, getD, drop, length-append, length-drop, drop-of-length-le}
+use lib.ListN.{length, set, getD, drop, length-append, drop-of-length-le}
 use lib.Seq.{sets, length-sets, drop-cons}
-use borrow.Author.Tests.{lt-ltb, le-ltb, ltb-false}
 use Rattle.numerals.specs.Decimal.{digitByte, decimal}
-use Rattle.numerals.specs.Lines.{Line, fieldBytes, lineBytes, bytesOfLines}
-use Rattle.numerals.specs.Put.{Put, endBefore, fieldRoom, noRoom, linePut}
-use Rattle.numerals.specs.Words.{comma, lineEnd}
+use Rattle.numerals.specs.Lines.{Line, lineBytes, bytesOfLines}
+use Rattle.numerals.specs.Put.{Put}
 use Rattle.numerals.proofs.DecimalLaws.{decimal-one, decimal-more}
-use Rattle.numerals.proofs.LineLaws.{numberLine, numberBytes, fields-last, fields-more, line-is, lines-none, lines-one, lines-more, lines-append}
+use Rattle.numerals.proofs.LineLaws.{lines-none, lines-one, lines-more, lines-append}
 use Rattle.laws.proofs.Stores.{sets-append}
 
 put-byte : (l : List ℕ) (i a : ℕ) → Put l i (a ∷ []) (i + 1) (set l i a)

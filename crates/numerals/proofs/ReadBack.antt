@@ -4,7 +4,7 @@
 -- Assumes nothing.
 use Prim.Native.Nat.{ℕ, zero, suc, _+_, _-_, _*_, _/_, _%_, _≤_, _<_}
 use Prim.Native.String.{String}
-use mathlib.Core.Bool.{Bool, true, false, _&&_, _||_}
+use mathlib.Core.Bool.{Bool, true, false, _&&_}
 use mathlib.Core.List.{List, [], _∷_, _++_, append-assoc, append-nil, map}
 use mathlib.Core.Logic.{⊎-elim}
 use mathlib.Core.Path.{_≡_, refl, sym, ap, _∙_}
@@ -14,7 +14,7 @@ use borrow.Author.Tests.{ltb-true, le-leb, lt-leb, ne-eqb}
 use Rattle.laws.proofs.Every.{Every, all, imply, map-of}
 use Rattle.laws.proofs.Guards.{both, no-fault}
 use Rattle.laws.proofs.Order.{either-order}
-use Rattle.numerals.specs.Decimal.{digitByte, isDigit, withDigit, decimal}
+use Rattle.numerals.specs.Decimal.{digitByte, isDigit, decimal}
 use Rattle.numerals.specs.Lines.{Line, line, fieldBytes, lineBytes, bytesOfLines}
 use Rattle.numerals.specs.Numbers.{endsNumber, readOn, numberEnded, numbersFrom, numbersIn, worthFrom, numbersOf, numbersOfLines}
 use Rattle.numerals.specs.Words.{bytesOf, comma, lineEnd}

@@ -14,7 +14,7 @@ use Rattle.laws.proofs.Every.{Every}
 use Rattle.laws.proofs.Order.{either-order}
 use Rattle.numerals.specs.Decimal.{digitByte, isDigit, decimal}
 use Rattle.numerals.specs.Fields.{largest, Small, endFrom, digitsFrom, fieldFrom, fieldAt, wordFrom, wordAt, keyedAt}
-use Rattle.numerals.specs.Lines.{fieldBytes, lineBytes}
+use Rattle.numerals.specs.Lines.{lineBytes}
 use Rattle.numerals.specs.Rows.{rowAt}
 use Rattle.numerals.specs.Words.{comma, lineEnd}
 use Rattle.numerals.specs.declared.fields.Field.the-variants as field

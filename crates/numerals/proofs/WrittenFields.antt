@@ -1,7 +1,7 @@
 -- What is read as a number, a word or a line of a key and a number is written so, and the number is at most 4294967294: by recursion on the
 -- bytes, each branch of a test that was passed telling the next byte.
 -- Assumes nothing.
-use Prim.Native.Nat.{ℕ, _+_, _-_, _≤_, _<_}
+use Prim.Native.Nat.{ℕ, _+_, _-_, _<_}
 use mathlib.Core.List.{List, [], _∷_, _++_, append-assoc, append-nil}
 use mathlib.Core.Logic.{⊎-elim}
 use mathlib.Core.Path.{_≡_, refl, sym, ap, _∙_}

@@ -2,7 +2,7 @@
 -- Assumes nothing.
 use Prim.Native.Nat.{ℕ}
 use mathlib.Core.List.{List, []}
-use mathlib.Core.Path.{_≡_, ap, sym, _∙_}
+use mathlib.Core.Path.{_≡_, ap, _∙_}
 use Rattle.calendar.proofs.OneOutcome.{no-winter-known, winter-known}
 use Rattle.calendar.specs.Answers.{knownPaper, winterFacts}
 use Rattle.book.specs.Part.{dayReadings}

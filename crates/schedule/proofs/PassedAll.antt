@@ -17,7 +17,8 @@ use Rattle.notices.specs.declared.profiles.Figures.{Figures}
 use Rattle.schedule.specs.ListCheck.{sofarAt, rowsAt, noticesTable}
 use Rattle.schedule.specs.declared.rules.Sofar.{Sofar}
 use Rattle.schedule.proofs.Lawful.{Sound, Alike, Follows, period-iff, open-iff, week-iff, order-iff, apart-iff, limit-iff}
-use Rattle.schedule.proofs.Walk.{Passed, none-passed, passed-none, sofar-none, sofar-hours, sofar-event}
+use Rattle.schedule.proofs.NoticeRows.{Passed, none-passed, passed-none}
+use Rattle.schedule.proofs.Walk.{sofar-none, sofar-hours, sofar-event}
 
 -- what a notice has passed, and what it keeps
 

@@ -1,15 +1,14 @@
 -- Which texts are accepted: those of some values that can be written in the form, not too long, and of which every rule is kept. Both directions,
 -- row by row.
 -- Assumes nothing.
-use Prim.Native.Nat.{ℕ, _≤_, _<_}
+use Prim.Native.Nat.{ℕ, _≤_}
 use mathlib.Core.Bool.{false, not, true≢false}
 use mathlib.Core.List.{List}
 use mathlib.Core.Logic.{_↔_}
 use mathlib.Core.Path.{_≡_, refl, sym, ap, _∙_}
-use lib.Dec.{ltb, eqb}
+use lib.Dec.{eqb}
 use lib.ListN.{length}
-use borrow.Author.Tests.{ltb-false, eqb-true, eq-eqb, le-ltb, not-false}
-use Rattle.calendar.specs.WinterOf.{winterOf}
+use borrow.Author.Tests.{ltb-false, eqb-true, le-ltb, not-false}
 use Rattle.dates.proofs.Promise.{winter-range}
 use Rattle.dates.specs.Winters.{noWinter, days}
 use Rattle.form.proofs.Converse.{Held, form-written}
@@ -19,7 +18,6 @@ use Rattle.form.specs.Form.{formOf, noticesSaid}
 use Rattle.form.specs.Places.{misplacedLineIn}
 use Rattle.form.specs.declared.whole.Form.the-variants as form
 use Rattle.form.specs.declared.whole.Form.{Form}
-use Rattle.laws.proofs.Tables.{NoneBroken}
 use Rattle.laws.specs.Table.{accepted}
 use Rattle.money.proofs.PriceLaws.{RightPrice, right-price, price-right}
 use Rattle.notices.specs.Profiles.{figuresOf}

@@ -5,8 +5,7 @@ use Prim.Native.Nat.{ℕ, _≤_, _<_}
 use mathlib.Core.Bool.{Bool, true, false}
 use mathlib.Core.List.{List, [], _∷_}
 use mathlib.Core.Path.{_≡_, refl, sym, ap, _∙_}
-use lib.Dec.{eqb}
-use lib.ListN.{length, getD}
+use lib.ListN.{length}
 use borrow.Author.Tests.{lt-ltb, le-ltb, ne-eqb}
 use Rattle.dates.specs.Winters.{noWinter, days}
 use Rattle.form.proofs.Begins.{FirstBrokenLine}
@@ -22,8 +21,7 @@ use Rattle.form.specs.declared.whole.Form.{Form}
 use Rattle.form.specs.declared.whole.Shape.{Shape}
 use Rattle.laws.proofs.Tables.{row-stops, row-goes}
 use Rattle.laws.proofs.Tells.{Tells, placeIn, table-tells}
-use Rattle.laws.specs.Answer.{Answer}
-use Rattle.laws.specs.Table.{Row, refusalAt, firstOf, isRefusal}
+use Rattle.laws.specs.Table.{Row, refusalAt, firstOf}
 use Rattle.numerals.specs.Numbers.{numbersIn}
 use Rattle.printing.proofs.Shows.{refused-numbers}
 use Rattle.text.specs.Refusals.{mostBytes, valueRows, textTable, textRefusal}

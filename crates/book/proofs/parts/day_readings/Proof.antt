@@ -1,6 +1,6 @@
 -- `day_readings` hands back the empty part at the book's start, or the 24 numbers at 24 times the day, which lie in the book.
 -- Assumes nothing.
-use Prim.Native.Nat.{_+_, _-_}
+use Prim.Native.Nat.{_+_}
 use mathlib.Core.Path.{refl}
 use native.Mathlib.Omega.{arith}
 use borrow.Author.Needs.{needs}

@@ -1,6 +1,5 @@
 -- `check_bytes` hands a list to the room that it fits in.
 -- Assumes nothing.
-use native.Mathlib.Omega.{arith}
 use borrow.Author.Needs.{needs}
 use Rattle.boundary.proofs.check_call.check_bytes.Statement.{statement}
 use Rattle.boundary.proofs.check_call.check_bytes.Tie as tie

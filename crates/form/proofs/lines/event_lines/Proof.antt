@@ -1,7 +1,6 @@
 -- The event lines are the definition's, and their numbers are stored. Invariant: what is left of them ends and stores as all do (`EventWalk`).
 -- Assumes nothing.
 use mathlib.Core.Path.{sym, _∙_}
-use native.Mathlib.Omega.{arith}
 use borrow.Author.Needs.{needs}
 use Rattle.form.proofs.EventWalk.{EventsLeft, events-start, events-end, events-stop, events-next}
 use Rattle.form.proofs.lines.event_lines.Statement.{statement}

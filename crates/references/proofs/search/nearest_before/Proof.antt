@@ -2,9 +2,9 @@
 -- The invariant: with `count` of them stored, the others are the nearest days before d that serve; and the day right before d carries no
 -- event.
 -- Assumes nothing.
-use Prim.Native.Nat.{_≤_, _<_, _-_}
+use Prim.Native.Nat.{_-_}
 use mathlib.Core.Logic.{⊎-elim}
-use mathlib.Core.Path.{_≡_, sym, ap, _∙_}
+use mathlib.Core.Path.{sym, ap, _∙_}
 use native.Mathlib.Omega.{arith}
 use Rattle.calendar.proofs.Promise.{days-few}
 use Rattle.references.specs.ReferenceDays.{freeIn}
@@ -12,7 +12,6 @@ use Rattle.references.specs.Search.{freeServes}
 use Rattle.references.proofs.PastEvents.{past-le}
 use Rattle.references.proofs.ReferenceLaws.{Walk, walk-start, walk-took, walk-passed, free-day}
 use Rattle.references.proofs.SearchLaws.{goes-on, search-ends}
-use borrow.Author.Needs.{needs}
 use Rattle.references.proofs.search.nearest_before.Statement.{statement}
 use Rattle.references.proofs.search.nearest_before.Tie as tie
 

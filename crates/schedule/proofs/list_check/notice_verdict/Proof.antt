@@ -2,7 +2,7 @@
 -- Assumes nothing.
 use borrow.Author.Needs.{needs}
 use Rattle.laws.proofs.Guards.{found}
-use Rattle.schedule.proofs.Walk.{notice-stop, notice-go, own-fits}
+use Rattle.schedule.proofs.NoticeRows.{notice-stop, notice-go, own-fits}
 use Rattle.schedule.proofs.list_check.notice_verdict.Statement.{statement}
 use Rattle.schedule.proofs.list_check.notice_verdict.Tie as tie
 
