@@ -1,15 +1,18 @@
--- Bounds of Easter's numbers: the specification's t lies in 114..149, and so Easter Sunday in days 141..177 of the book.
+-- Bounds of Easter's numbers: the specification's t lies in 114..149, and so Easter Sunday in days 141..177 of the book. And of the years
+-- that are asked for: they lie in one century.
 -- Assumes nothing.
 use Prim.Native.Nat.{ℕ, _+_, _-_, _*_, _/_, _%_, _≤_}
+use mathlib.Core.Bool.{false}
+use mathlib.Core.Path.{_≡_}
 use native.Mathlib.Omega.{arith}
+use lib.Dec.{ltb}
+use borrow.Author.Tests.{ltb-false}
+use Rattle.laws.proofs.Guards.{neither}
 use Rattle.dates.proofs.Promise.{days-range}
 use Rattle.dates.specs.Winters.{days}
-use Rattle.calendar.specs.Easter.{easterT, afterMarchFirst, easterInBook}
+use Rattle.calendar.specs.Easter.{noEasterYear, easterT, afterMarchFirst, easterInBook}
 
--- two steps of Easter's formula over plain numbers: nothing is taken from less, and t is small
-pub easter-sub : (h p q k : ℕ) → k % 4 ≤ 32 + p + q - h % 30
-easter-sub h p q k = omega arith
-
+-- the last step of Easter's formula over plain numbers: t is small
 pub easter-sum : (h l m : ℕ) → h % 30 + l % 7 - 7 * m + 114 ≤ 149
 easter-sum h l m = omega arith
 
@@ -26,3 +29,18 @@ after-range y = plain (easterT y) (t-range y)
 pub easter-range : (y : ℕ) → (141 ≤ easterInBook y) × (easterInBook y ≤ 177)
 unfolding easterInBook
 easter-range y = omega (arith, days-range y, after-range (y + 1))
+
+-- a year of the century that begins with 2000: what is left over 100, and how often 400 goes into it
+module _ (y : ℕ) (e : y / 100 ≡ 20) where
+  pub century-rest : y % 100 ≡ y - 2000
+  century-rest = omega arith
+
+  pub century-fours : y / 400 ≡ 5
+  century-fours = omega arith
+
+-- each year whose Easter is answered is one
+pub easter-century : (y : ℕ) → noEasterYear y ≡ false → y / 100 ≡ 20
+unfolding noEasterYear
+easter-century y e =
+    let p = neither (ltb y 2011) (ltb 2099 y) e in
+    omega (arith, ltb-false y 2011 (p .0), ltb-false 2099 y (p .1))

@@ -1,9 +1,10 @@
 // Easter Sunday.
 ghost use mathlib.Core.Path.{_≡_};
-ghost use Prim.Native.Nat.{_+_};
+ghost use Prim.Native.Nat.{_+_, _/_};
 ghost use Rattle.calendar.specs.Easter.{noEasterYear, easterT, afterMarchFirst};
 ghost use Rattle.calendar.specs.Answers.{sundayPaper, easterSunday};
 use crate::answers::Sunday;
+use crate::winters::CENTURY;
 
 // Whether a year is outside those whose Easter can fall into a winter.
 fn no_easter_year(year: u32) -> bool
@@ -12,13 +13,14 @@ fn no_easter_year(year: u32) -> bool
     (year < 2011) | (2099 < year)
 }
 
-// The t of rule 1.13, in its letters, from which month and day follow. In 64 bits no step wraps.
-fn easter_t(y: u64) -> u64
+// The t of rule 1.13, in its letters, from which month and day follow. Of all years asked for b is the same, and so are d, e, f and g.
+fn easter_t(y: u32) -> u32
+    requires { ⌜ y / 100 ≡ 20 ⌝ }
     ensures { λ r. ⌜ r ≡ easterT y ⌝ }
 {
     let a = y % 19;
-    let b = y / 100;
-    let c = y % 100;
+    let b = CENTURY;
+    let c = y - 100 * b;
     let d = b / 4;
     let e = b % 4;
     let f = (b + 8) / 25;
@@ -33,9 +35,10 @@ fn easter_t(y: u64) -> u64
 
 // How many days after the first of March Easter Sunday of the year after comes.
 pub(crate) fn easter_after(winter: u32) -> u32
+    requires { ⌜ (winter + 1) / 100 ≡ 20 ⌝ }
     ensures { λ r. ⌜ r ≡ afterMarchFirst (winter + 1) ⌝ }
 {
-    let t = easter_t(winter as u64 + 1) as u32;
+    let t = easter_t(winter + 1);
     let month = t / 31;
     let day = t % 31 + 1;
     31 * (month - 3) + day - 1
@@ -48,6 +51,6 @@ pub fn easter_sunday(year: u32) -> Sunday
     if no_easter_year(year) {
         return Sunday::NoYear;
     }
-    let t = easter_t(year as u64) as u32;
+    let t = easter_t(year);
     Sunday::On(t / 31, t % 31 + 1)
 }

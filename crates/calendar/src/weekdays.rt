@@ -1,20 +1,21 @@
 // Weekdays of the book's days, counted from Sunday, 0, to Saturday, 6.
 ghost use mathlib.Core.Path.{_≡_};
-ghost use Prim.Native.Nat.{_<_};
+ghost use Prim.Native.Nat.{_/_};
 ghost use Rattle.dates.specs.Answers.{numberPaper};
 ghost use Rattle.calendar.specs.Answers.{weekdayOf};
 ghost use Rattle.calendar.specs.Weekdays.{firstWeekday, weekday, weekend};
 use crate::answers::Known;
 use crate::answers::Winter;
+use crate::winters::CENTURY;
 use crate::winters::winter_of;
 use dates::Number;
 
-// The weekday of 1 November. In 64 bits no sum wraps, whatever the winter.
+// The weekday of 1 November: of Y/100 and Y/400 in rule 1.8 the century decides.
 pub(crate) fn first_weekday(winter: u32) -> u32
+    requires { ⌜ winter / 100 ≡ 20 ⌝ }
     ensures { λ r. ⌜ r ≡ firstWeekday winter ⌝ }
 {
-    let y = winter as u64;
-    ((y + y / 4 - y / 100 + y / 400 + 3) % 7) as u32
+    (winter + winter / 4 - CENTURY + CENTURY / 4 + 3) % 7
 }
 
 // The weekday of a day, counted on from that of day 0.

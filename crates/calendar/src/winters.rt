@@ -10,6 +10,9 @@ use crate::weekdays::first_weekday;
 use dates::Days;
 use dates::Number;
 
+// How many hundreds each year of a winter has, and each year whose Easter is answered: they are 2010 to 2099.
+pub(crate) const CENTURY: u32 = 20;
+
 // Whether no winter has such facts: any may be handed over.
 pub fn wrong_winter(w: Winter) -> bool
     ensures { λ r. ⌜ r ≡ wrongWinter w ⌝ }

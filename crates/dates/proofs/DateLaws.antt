@@ -1,7 +1,7 @@
 -- Laws of the walk over the months: what it gives where it stops, and that a month passed changes nothing.
 -- Assumes nothing.
-use Prim.Native.Nat.{ℕ, zero, suc, _+_, _-_, _≤_, _<_}
-use mathlib.Core.Bool.{Bool, true, false, cond, _&&_, _||_}
+use Prim.Native.Nat.{ℕ, zero, suc, _+_, _-_, _/_, _%_, _≤_, _<_}
+use mathlib.Core.Bool.{Bool, true, false, not, cond, _&&_, _||_}
 use mathlib.Core.List.{List, [], _∷_}
 use mathlib.Core.Path.{_≡_, refl}
 use native.Mathlib.Numerals.{add-one}
@@ -14,6 +14,16 @@ use Rattle.laws.proofs.Guards.{both, neither}
 use Rattle.laws.specs.Answer.{given, refusal}
 use Rattle.dates.specs.Dates.{monthLengths, monthAfter, dateFrom, dayInMonth, bookDayFrom}
 use Rattle.dates.specs.Winters.{leap, days}
+
+-- in the century that begins with 2000 a leap year is one that 4 divides: 2000 is one too
+pub leap-century : (y : ℕ) → y / 100 ≡ 20 → eqb (y % 4) 0 ≡ leap y
+unfolding leap
+leap-century y e = by (eqb (y % 4) 0) (eqb (y % 100) 0) refl
+  where
+    by : (four hundred : Bool) → eqb (y % 100) 0 ≡ hundred → four ≡ (four && (not hundred || eqb (y % 400) 0))
+    by false hundred q = refl
+    by true false q = refl
+    by true true q = rw (eq-eqb (y % 400) 0 (omega (arith, e, eqb-true (y % 100) 0 q)))
 
 -- the code's table: the months of a winter whose February is a common year's
 abbrev pub commonLengths : List ℕ

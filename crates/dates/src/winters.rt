@@ -1,6 +1,6 @@
 // Winters.
 ghost use mathlib.Core.Path.{_≡_};
-ghost use Prim.Native.Nat.{_+_};
+ghost use Prim.Native.Nat.{_+_, _/_};
 ghost use Rattle.dates.specs.Winters.{noWinter, leap};
 
 // Whether no winter has that name: a winter is named by the year of its December, 2010 to 2098.
@@ -10,10 +10,10 @@ pub(crate) fn no_winter(winter: u32) -> bool
     (winter < 2010) | (2098 < winter)
 }
 
-// Whether the winter's February, the next year's, has a leap day (Gregorian). In 64 bits the next year fits, whatever the winter.
+// Whether the winter's February, the next year's, has a leap day. All winters lie in one century, in which every fourth year has one.
 pub(crate) fn has_leap_day(winter: u32) -> bool
+    requires { ⌜ (winter + 1) / 100 ≡ 20 ⌝ }
     ensures { λ r. ⌜ r ≡ leap (winter + 1) ⌝ }
 {
-    let year = winter as u64 + 1;
-    (year % 4 == 0) & ((year % 100 != 0) | (year % 400 == 0))
+    (winter + 1) % 4 == 0
 }

@@ -13,9 +13,6 @@ add-easter-t c = search needs
 easter-t-requires : tie.Need-easter-t-requires
 easter-t-requires c κs = search needs
 
-cast-t : tie.Need-cast-t
-cast-t c = omega (arith, t-range (c .before .args .winter + 1))
-
 add-day : tie.Need-add-day
 add-day c = search needs
 
@@ -40,7 +37,6 @@ easter-after-spec =
     (tie.spec
     add-easter-t
     easter-t-requires
-    cast-t
     add-day
     sub-result
     mul-result

@@ -1,11 +1,10 @@
 -- `easter_sunday` answers 1 for a year outside, else the month and the day that t gives.
 -- Assumes nothing.
-use native.Mathlib.Omega.{arith}
 use borrow.Author.Needs.{needs}
 use Rattle.laws.proofs.Guards.{found}
 use Rattle.laws.proofs.Refusals.{refused, kept}
 use Rattle.calendar.specs.Answers.{easterSunday}
-use Rattle.calendar.proofs.Bounds.{t-range}
+use Rattle.calendar.proofs.Bounds.{easter-century}
 use Rattle.calendar.proofs.easter.easter_sunday.Statement.{statement}
 use Rattle.calendar.proofs.easter.easter_sunday.Tie as tie
 
@@ -17,13 +16,10 @@ unfolding easterSunday
 returns c = refused _ _ (found (c .before .no-easter-year .ensures) (c .if1 .taken))
 
 easter-t-requires : tie.Need-easter-t-requires
-easter-t-requires c κs = search needs
+easter-t-requires c κs = easter-century _ (found (c .before .no-easter-year .ensures) (c .if1 .left))
 
-cast-t : tie.Need-cast-t
-cast-t c = omega (arith, t-range (c .before .before .before .args .year))
-
-add-t8 : tie.Need-add-t8
-add-t8 c = search needs
+add-t6 : tie.Need-add-t6
+add-t6 c = search needs
 
 returns-2 : tie.Need-returns-2
 unfolding easterSunday
@@ -31,4 +27,4 @@ returns-2 c = kept _ (found (c .before .before .no-easter-year .ensures) (c .bef
 
 pub easter-sunday-spec : {M : Type 1} → statement M
 easter-sunday-spec =
-    tie.close (tie.spec no-easter-year-requires returns easter-t-requires cast-t add-t8 returns-2)
+    tie.close (tie.spec no-easter-year-requires returns easter-t-requires add-t6 returns-2)

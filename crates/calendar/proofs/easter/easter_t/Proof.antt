@@ -1,11 +1,17 @@
--- `easter_t` is the formula of rule 1.13 step by step: no difference falls below 0 and no sum wraps.
+-- `easter_t` is the formula of rule 1.13 step by step, with 20 for b: no difference falls below 0 and no sum wraps.
 -- Assumes nothing.
 use borrow.Author.Needs.{needs}
 use mir.Facts.{fits-le, fits-lit}
 use Rattle.calendar.specs.Easter.{easterT}
-use Rattle.calendar.proofs.Bounds.{easter-sub, easter-sum}
+use Rattle.calendar.proofs.Bounds.{easter-sum, century-rest}
 use Rattle.calendar.proofs.easter.easter_t.Statement.{statement}
 use Rattle.calendar.proofs.easter.easter_t.Tie as tie
+
+mul-c : tie.Need-mul-c
+mul-c c = search needs
+
+sub-c : tie.Need-sub-c
+sub-c c = search needs
 
 add-f : tie.Need-add-f
 add-f c = search needs
@@ -47,7 +53,7 @@ sub-l : tie.Need-sub-l
 sub-l c = search needs
 
 sub-l-2 : tie.Need-sub-l-2
-sub-l-2 c = easter-sub _ _ _ _
+sub-l-2 c = search needs
 
 mul-m : tie.Need-mul-m
 mul-m c = search needs
@@ -75,12 +81,14 @@ add-result-2 c = fits-le (easter-sum _ _ _) (fits-lit tt)
 
 returns : tie.Need-returns
 unfolding easterT
-returns c = search needs
+returns c = rw (c .pre, century-rest _ (c .pre))
 
 pub easter-t-spec : {M : Type 1} → statement M
 easter-t-spec =
     tie.close
     (tie.spec
+    mul-c
+    sub-c
     add-f
     sub-g
     add-g

@@ -1,9 +1,10 @@
--- `winter_of` answers 1 for no winter, else the facts, with the first days of December and March as the table of months has them.
+-- `winter_of` answers 1 for no winter, else the facts, with the first days of December and March as the table of months has them. A winter's
+-- years lie in the century that the functions on years ask for.
 -- Assumes nothing.
 use native.Mathlib.Omega.{arith}
 use borrow.Author.Needs.{needs}
 use Rattle.laws.proofs.Refusals.{refused}
-use Rattle.dates.proofs.Promise.{no-winter, is-winter, winter-count}
+use Rattle.dates.proofs.Promise.{winter-range, no-winter, is-winter, winter-count}
 use Rattle.calendar.specs.Answers.{winterFacts}
 use Rattle.calendar.proofs.FactLaws.{facts-given, easter-fits}
 use Rattle.calendar.proofs.winters.winter_of.Statement.{statement}
@@ -26,13 +27,19 @@ first-of-requires : tie.Need-first-of-requires
 first-of-requires c κs = search needs
 
 first-weekday-requires : tie.Need-first-weekday-requires
-first-weekday-requires c κs = search needs
+first-weekday-requires c κs =
+    let days = c .before .before in
+    let is = is-winter _ _ _ (days .counted .given .1) (days .before .before .winter-days .ensures) in
+    omega (arith, winter-range (days .before .before .before .args .winter) .0 is)
 
 first-of-requires-2 : tie.Need-first-of-requires-2
 first-of-requires-2 c κs = search needs
 
 easter-after-requires : tie.Need-easter-after-requires
-easter-after-requires c κs = search needs
+easter-after-requires c κs =
+    let days = c .before .before .before .before in
+    let is = is-winter _ _ _ (days .counted .given .1) (days .before .before .winter-days .ensures) in
+    omega (arith, winter-range (days .before .before .before .args .winter) .0 is)
 
 add-t8 : tie.Need-add-t8
 add-t8 c =

@@ -11,6 +11,7 @@ use Rattle.laws.proofs.Refusals.{refused, kept}
 use Rattle.dates.specs.Answers.{bookDayOf}
 use Rattle.dates.specs.Dates.{monthLengths, november, bookDayFrom}
 use Rattle.dates.proofs.DateLaws.{length-small, book-day-here, book-day-next, book-day-end}
+use Rattle.dates.proofs.Promise.{winter-range}
 use Rattle.dates.proofs.dates.book_day_of.Statement.{statement}
 use Rattle.dates.proofs.dates.book_day_of.Tie as tie
 
@@ -32,7 +33,10 @@ loop-holds : tie.Need-loop-holds Inv-loop μ-loop
 loop-holds c = search needs
 
 month-length-requires : tie.Need-month-length-requires Inv-loop μ-loop
-month-length-requires c κs = search needs
+month-length-requires c κs =
+    let start = c .before .before in
+    let is = winter-range (start .before .before .args .winter) .0 (found (start .before .no-winter .ensures) (start .if1 .left)) in
+    (search needs, omega (arith, is))
 
 day-in-month-requires : tie.Need-day-in-month-requires Inv-loop μ-loop
 day-in-month-requires c κs =

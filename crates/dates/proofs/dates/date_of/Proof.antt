@@ -11,6 +11,7 @@ use Rattle.laws.proofs.Refusals.{refused, kept}
 use Rattle.dates.specs.Answers.{dateOf}
 use Rattle.dates.specs.Dates.{monthLengths, november, dateFrom}
 use Rattle.dates.proofs.DateLaws.{length-small, date-here, date-next, date-end}
+use Rattle.dates.proofs.Promise.{winter-range}
 use Rattle.dates.proofs.dates.date_of.Statement.{statement}
 use Rattle.dates.proofs.dates.date_of.Tie as tie
 
@@ -31,7 +32,10 @@ loop-holds : tie.Need-loop-holds Inv-loop μ-loop
 loop-holds c = search needs
 
 month-length-requires : tie.Need-month-length-requires Inv-loop μ-loop
-month-length-requires c κs = search needs
+month-length-requires c κs =
+    let start = c .before .before in
+    let is = winter-range (start .before .before .args .winter) .0 (found (start .before .no-winter .ensures) (start .if1 .left)) in
+    (search needs, omega (arith, is))
 
 add-t9 : tie.Need-add-t9 Inv-loop μ-loop
 add-t9 c = omega (arith, length-small (c .before .before .before .before .before .before .args .winter) (c .before .before .before .loop .i))

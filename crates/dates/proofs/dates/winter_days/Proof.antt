@@ -12,6 +12,7 @@ use Rattle.dates.specs.Answers.{winterDays}
 use Rattle.dates.specs.Dates.{monthLengths}
 use Rattle.dates.specs.Winters.{days}
 use Rattle.dates.proofs.DateLaws.{length-small, together, together-days, together-next, together-end}
+use Rattle.dates.proofs.Promise.{winter-range}
 use Rattle.dates.proofs.dates.winter_days.Statement.{statement}
 use Rattle.dates.proofs.dates.winter_days.Tie as tie
 
@@ -32,7 +33,10 @@ loop-holds : tie.Need-loop-holds Inv-loop μ-loop
 loop-holds c = (omega arith, omega arith, omega (arith, together-days (c .before .before .args .winter)))
 
 month-length-requires : tie.Need-month-length-requires Inv-loop μ-loop
-month-length-requires c κs = search needs
+month-length-requires c κs =
+    let start = c .before .before in
+    let is = winter-range (start .before .before .args .winter) .0 (found (start .before .no-winter .ensures) (start .if1 .left)) in
+    (search needs, omega (arith, is))
 
 add-days : tie.Need-add-days Inv-loop μ-loop
 add-days c = omega (arith, length-small (c .before .before .before .before .before .args .winter) (c .before .before .loop .i))
