@@ -9,7 +9,7 @@ use lib.Dec.{ltb}
 use borrow.Author.Tests.{ltb-false}
 use Rattle.laws.proofs.Guards.{neither}
 use Rattle.dates.proofs.Promise.{days-range}
-use Rattle.dates.specs.Winters.{days}
+use Rattle.dates.specs.Century.{InCentury}
 use Rattle.calendar.specs.Easter.{noEasterYear, easterT, afterMarchFirst, easterInBook}
 
 -- the last step of Easter's formula over plain numbers: t is small
@@ -31,7 +31,7 @@ unfolding easterInBook
 easter-range y = omega (arith, days-range y, after-range (y + 1))
 
 -- a year of the century that begins with 2000: what is left over 100, and how often 400 goes into it
-module _ (y : ℕ) (e : y / 100 ≡ 20) where
+module _ (y : ℕ) (e : InCentury y) where
   pub century-rest : y % 100 ≡ y - 2000
   century-rest = omega arith
 
@@ -39,7 +39,7 @@ module _ (y : ℕ) (e : y / 100 ≡ 20) where
   century-fours = omega arith
 
 -- each year whose Easter is answered is one
-pub easter-century : (y : ℕ) → noEasterYear y ≡ false → y / 100 ≡ 20
+pub easter-century : (y : ℕ) → noEasterYear y ≡ false → InCentury y
 unfolding noEasterYear
 easter-century y e =
     let p = neither (ltb y 2011) (ltb 2099 y) e in

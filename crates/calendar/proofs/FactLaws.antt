@@ -1,9 +1,9 @@
 -- Laws of a winter's facts, one for each way out of the functions that work them out or ask by them.
 -- Assumes nothing.
 use Prim.Native.Nat.{ℕ, _+_, _≤_, _<_}
-use mathlib.Core.Bool.{Bool, true, false}
+use mathlib.Core.Bool.{Bool, false}
 use mathlib.Core.List.{[], _∷_}
-use mathlib.Core.Path.{_≡_, refl, ap, sym, _∙_}
+use mathlib.Core.Path.{_≡_, ap, _∙_}
 use native.Mathlib.Omega.{arith}
 use lib.Dec.{leb}
 use lib.ListN.{getD}
@@ -12,7 +12,7 @@ use Rattle.laws.specs.Answer.{Answer, given, refusal, bit}
 use Rattle.dates.proofs.Promise.{days-range, december-first, march-first}
 use Rattle.dates.specs.Winters.{noWinter, days}
 use Rattle.calendar.specs.Answers.{factsPaper, winterFacts, dayKind, weekdayOf}
-use Rattle.calendar.specs.Days.{wrongWinter, noDay, inPeriod}
+use Rattle.calendar.specs.Days.{wrongWinter}
 use Rattle.calendar.specs.Easter.{afterMarchFirst, easterInBook}
 use Rattle.calendar.specs.Excluded.{excluded}
 use Rattle.calendar.specs.Weekdays.{firstWeekday, weekday, weekend}

@@ -11,7 +11,6 @@ use Rattle.calendar.specs.Weekdays.{weekday, weekend}
 use Rattle.calendar.specs.WinterOf.{winterOf}
 use Rattle.calendar.specs.declared.answers.DayKind.the-variants as DayKindCase
 use Rattle.calendar.specs.declared.answers.DayKind.{DayKind}
-use Rattle.calendar.specs.declared.answers.Kind.{Kind}
 use Rattle.calendar.specs.declared.answers.Known.the-variants as KnownCase
 use Rattle.calendar.specs.declared.answers.Known.{Known}
 use Rattle.calendar.specs.declared.answers.Sunday.the-variants as SundayCase

@@ -1,6 +1,7 @@
 // Easter Sunday.
 ghost use mathlib.Core.Path.{_≡_};
-ghost use Prim.Native.Nat.{_+_, _/_};
+ghost use Prim.Native.Nat.{_+_};
+ghost use Rattle.dates.specs.Century.{InCentury};
 ghost use Rattle.calendar.specs.Easter.{noEasterYear, easterT, afterMarchFirst};
 ghost use Rattle.calendar.specs.Answers.{sundayPaper, easterSunday};
 use crate::answers::Sunday;
@@ -15,7 +16,7 @@ fn no_easter_year(year: u32) -> bool
 
 // The t of rule 1.13, in its letters, from which month and day follow. Of all years asked for b is the same, and so are d, e, f and g.
 fn easter_t(y: u32) -> u32
-    requires { ⌜ y / 100 ≡ 20 ⌝ }
+    requires { ⌜ InCentury y ⌝ }
     ensures { λ r. ⌜ r ≡ easterT y ⌝ }
 {
     let a = y % 19;
@@ -35,7 +36,7 @@ fn easter_t(y: u32) -> u32
 
 // How many days after the first of March Easter Sunday of the year after comes.
 pub(crate) fn easter_after(winter: u32) -> u32
-    requires { ⌜ (winter + 1) / 100 ≡ 20 ⌝ }
+    requires { ⌜ InCentury (winter + 1) ⌝ }
     ensures { λ r. ⌜ r ≡ afterMarchFirst (winter + 1) ⌝ }
 {
     let t = easter_t(winter + 1);

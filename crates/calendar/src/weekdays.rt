@@ -1,6 +1,6 @@
 // Weekdays of the book's days, counted from Sunday, 0, to Saturday, 6.
 ghost use mathlib.Core.Path.{_≡_};
-ghost use Prim.Native.Nat.{_/_};
+ghost use Rattle.dates.specs.Century.{InCentury};
 ghost use Rattle.dates.specs.Answers.{numberPaper};
 ghost use Rattle.calendar.specs.Answers.{weekdayOf};
 ghost use Rattle.calendar.specs.Weekdays.{firstWeekday, weekday, weekend};
@@ -12,7 +12,7 @@ use dates::Number;
 
 // The weekday of 1 November: of Y/100 and Y/400 in rule 1.8 the century decides.
 pub(crate) fn first_weekday(winter: u32) -> u32
-    requires { ⌜ winter / 100 ≡ 20 ⌝ }
+    requires { ⌜ InCentury winter ⌝ }
     ensures { λ r. ⌜ r ≡ firstWeekday winter ⌝ }
 {
     (winter + winter / 4 - CENTURY + CENTURY / 4 + 3) % 7

@@ -1,6 +1,6 @@
 -- Laws of the walk over the months: what it gives where it stops, and that a month passed changes nothing.
 -- Assumes nothing.
-use Prim.Native.Nat.{ℕ, zero, suc, _+_, _-_, _/_, _%_, _≤_, _<_}
+use Prim.Native.Nat.{ℕ, zero, suc, _+_, _-_, _%_, _≤_, _<_}
 use mathlib.Core.Bool.{Bool, true, false, not, cond, _&&_, _||_}
 use mathlib.Core.List.{List, [], _∷_}
 use mathlib.Core.Path.{_≡_, refl}
@@ -12,11 +12,12 @@ use lib.Seq.{drop-cons}
 use borrow.Author.Tests.{eqb-true, eq-eqb, ne-eqb, lt-ltb, le-ltb, ltb-false}
 use Rattle.laws.proofs.Guards.{both, neither}
 use Rattle.laws.specs.Answer.{given, refusal}
+use Rattle.dates.specs.Century.{InCentury}
 use Rattle.dates.specs.Dates.{monthLengths, monthAfter, dateFrom, dayInMonth, bookDayFrom}
 use Rattle.dates.specs.Winters.{leap, days}
 
 -- in the century that begins with 2000 a leap year is one that 4 divides: 2000 is one too
-pub leap-century : (y : ℕ) → y / 100 ≡ 20 → eqb (y % 4) 0 ≡ leap y
+pub leap-century : (y : ℕ) → InCentury y → eqb (y % 4) 0 ≡ leap y
 unfolding leap
 leap-century y e = by (eqb (y % 4) 0) (eqb (y % 100) 0) refl
   where

@@ -1,3 +1,4 @@
+pub mod Century
 pub mod Winters
 pub mod Dates
 pub mod Answers

@@ -1,7 +1,8 @@
 // The days of a winter's book, the date of a book day, and the book day of a date. All walk the months from November on.
 ghost use mathlib.Core.Path.{_≡_};
-ghost use Prim.Native.Nat.{_+_, _/_, _<_, _≤_};
+ghost use Prim.Native.Nat.{_+_, _<_, _≤_};
 ghost use lib.ListN.{getD};
+ghost use Rattle.dates.specs.Century.{InCentury};
 ghost use Rattle.dates.specs.Dates.{monthLengths, dayInMonth};
 ghost use Rattle.dates.specs.Answers.{daysPaper, winterDays, datePaper, dateOf, numberPaper, bookDayOf};
 use crate::answers::Date;
@@ -15,7 +16,7 @@ const MONTH_LENGTHS: [u32; 5] = [30, 31, 31, 28, 31];
 
 // The length of month i of the winter, counted from November, 0; February, 3, may have a leap day.
 fn month_length(winter: u32, i: usize) -> u32
-    requires { ⌜ (i < 5) × ((winter + 1) / 100 ≡ 20) ⌝ }
+    requires { ⌜ (i < 5) × InCentury (winter + 1) ⌝ }
     ensures { λ r. ⌜ r ≡ getD (monthLengths winter) i 0 ⌝ }
 {
     if (i == 3) & has_leap_day(winter) {
