@@ -29,7 +29,7 @@ use Rattle.energy.specs.Asked.{warmUp}
 use Rattle.energy.specs.HoursOf.{Spans, HoursFor, HoursIn, warmRun, eventRun}
 use Rattle.energy.specs.declared.hours.Hours.{Hours}
 
--- hours that rule 13 does not refuse under the winter credit lie in a band
+-- hours that 13 does not refuse under the winter credit lie in a band (rule 4.12)
 pub in-band : (f : Figures) (n : Notice) → f ≡ figuresOf Credit → badHours f n ≡ false → Spans (n .start) (n .end)
 in-band f n is e =
     let rule = hours-iff credit n .0 (rw (← credit-figures, ← is) e) in

@@ -1,4 +1,4 @@
--- Rules 13 and 14 as propositions, each the same as its test, and what the length test lets through. One law is of the code: the length
+-- The numbers 13 and 14 as propositions, each the same as its test, and what the length test lets through. One law is of the code: the length
 -- test on a callee's result.
 -- Assumes nothing.
 use Prim.Native.Nat.{ℕ, _-_, _≤_, _<_}

@@ -13,7 +13,7 @@ fn outside(band: Band, n: Notice) -> bool
     (n.start < band.start) | (band.end < n.end)
 }
 
-// Rule 13: whether the hours of a notice are empty, reversed or not inside one band.
+// Number 13 (rule 4.12): whether a notice has no hours, or its hours are not inside one band.
 pub fn bad_hours(f: Figures, n: Notice) -> bool
     ensures { λ r. ⌜ r ≡ badHours f n ⌝ }
 {
@@ -26,7 +26,7 @@ pub fn bad_hours(f: Figures, n: Notice) -> bool
     false
 }
 
-// Rule 14: whether the length of a notice is not allowed.
+// Number 14 (rule 4.13): whether the length of a notice is not allowed.
 pub fn bad_length(f: Figures, n: Notice) -> bool
     ensures { λ r. ⌜ r ≡ badLength f n ⌝ }
 {

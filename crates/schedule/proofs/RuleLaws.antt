@@ -43,7 +43,7 @@ module _ (w : Winter) (n : Notice) (day : Kind) (on : KindOn w (n .day) day) whe
     unfolding onExcludedDay
     excluded-on e = sym (on .open-day in-period) ∙ e
 
--- rule 12, asked only where the profile has no weekends
+-- 12, asked only where the profile has no weekends
 module _ (f : Figures) (w : Winter) (n : Notice) where
   pub weekend-allowed : f .weekends ≡ true → false ≡ barredWeekend f w n
   unfolding barredWeekend
@@ -63,7 +63,7 @@ past-on w d k e p =
       week = λ i. absurd (true≢false (sym i ∙ out));
     }
 
--- rule 16 of a later day
+-- 16, of a later day
 pub later-day : (f : Figures) (event n : Notice) → event .day < n .day → false ≡ sameBand f event n
 unfolding sameBand
 later-day f event n h = rw (ne-eqb (event .day) (n .day) (λ (e : event .day ≡ n .day). omega arith))
@@ -72,7 +72,7 @@ pub limit-is : (f : Figures) (so : Sofar) (n : Notice) (h : ℕ) → h ≡ hours
 unfolding overLimit
 limit-is f so n h e = rw e
 
--- rule 5, by the profile that a number names
+-- 5, by the profile that a number names
 pub no-profile : (q : ℕ) (x : Named) → x ≡ named q → x ≡ NoProfile → noProfile (named q) ≡ true
 no-profile q x e n = rw (← e, n)
 

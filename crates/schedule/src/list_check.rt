@@ -26,7 +26,7 @@ use notices::Named;
 use notices::Notice;
 use notices::Profile;
 
-// Rules 10 to 14: the notice at place k by itself.
+// Numbers 10 to 14 (rule 4.20): the notice at place k by itself.
 fn own_verdict(w: Winter, f: Figures, n: Notice, k: u32) -> Verdict
     requires { ⌜ wrongWinter w ≡ false ⌝ }
     ensures { λ r. ⌜ verdictPaper r ≡ firstOf (ownRows w f n k) ⌝ }
@@ -50,7 +50,7 @@ fn own_verdict(w: Winter, f: Figures, n: Notice, k: u32) -> Verdict
     Verdict::Accepted
 }
 
-// Rules 15, 16 and 18: the notice at place k among the others.
+// Numbers 15, 16 and 18 (rule 4.20): the notice at place k among the others.
 fn list_verdict(f: Figures, so: Sofar, n: Notice, k: u32) -> Verdict
     requires { ⌜ HoursFit so n ⌝ }
     ensures { λ r. ⌜ verdictPaper r ≡ firstOf (listRows f so n k) ⌝ }
@@ -136,7 +136,7 @@ fn check_notices(w: Winter, f: Figures, list: &[u32], count: usize) -> Verdict
     Verdict::Accepted
 }
 
-// Rule 4: whether a list of so many numbers is not whole notices, or has too many.
+// Number 4 (rule 4.6): whether a list of so many numbers is not whole notices, or has too many.
 pub fn bad_list(length: usize) -> bool
     ensures { λ r. ⌜ r ≡ badList length ⌝ }
 {

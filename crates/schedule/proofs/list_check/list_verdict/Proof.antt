@@ -1,4 +1,4 @@
--- `list_verdict` tries rules 15, 16 and 18 in their order: one way out for each row of the table, and one past them all.
+-- `list_verdict` tries 15, 16 and 18 in their order: one way out for each row of the table, and one past them all.
 -- Assumes nothing.
 use borrow.Author.Needs.{needs}
 use Rattle.laws.proofs.Guards.{found}

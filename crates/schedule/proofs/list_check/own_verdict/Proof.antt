@@ -1,4 +1,4 @@
--- `own_verdict` tries rules 10 to 14 in their order: one way out for each row of the table, and one past them all.
+-- `own_verdict` tries 10 to 14 in their order: one way out for each row of the table, and one past them all.
 -- Assumes nothing.
 use borrow.Author.Needs.{needs}
 use Rattle.laws.proofs.Guards.{found}
