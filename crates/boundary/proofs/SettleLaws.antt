@@ -21,9 +21,10 @@ use Rattle.wire.proofs.ReadLaws.{numbers-long, read-whole, read-long}
 use Rattle.wire.proofs.WriteLaws.{written-whole}
 use Rattle.wire.specs.Bytes.{numbersRead, bytesWritten}
 use Rattle.boundary.specs.Calls.{packed, packedSettlement, linesOver, settledOver, settleCall, settleBytes}
-use Rattle.boundary.specs.Lent.{numberCount, decoded}
+use Rattle.wire.specs.Decoded.{numberCount, decoded}
 use Rattle.boundary.specs.Whole.{JustRoom, wholeNumbers, wholeCall, wholeBytes, SettledBytes}
-use Rattle.boundary.proofs.LentLaws.{RightLengths, decoded-long, decoded-whole, right-lengths}
+use Rattle.wire.proofs.DecodedLaws.{decoded-long, decoded-whole}
+use Rattle.boundary.proofs.LentLaws.{RightLengths, right-lengths}
 
 -- what was read with just the room for it
 pub read-is : (bytes numbers : List ℕ) → length numbers ≡ length bytes / 4 → numbersRead bytes numbers ≡ wholeNumbers bytes

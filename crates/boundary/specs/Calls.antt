@@ -13,7 +13,7 @@ use Rattle.credit.specs.declared.call.Settlement.{Settlement}
 use Rattle.notices.specs.Notices.{countOf}
 use Rattle.schedule.specs.ListCheck.{checkAnswer}
 use Rattle.wire.specs.Bytes.{bytesTo}
-use Rattle.boundary.specs.Lent.{decoded}
+use Rattle.wire.specs.Decoded.{decoded}
 
 -- rule 9.5: number and place in one number
 abbrev pub packed : ℕ → ℕ → ℕ

@@ -1,6 +1,5 @@
 // The calls on bytes, as a host program in C lends them.
 mod check_call;
-mod lent;
 mod packing;
 mod settle_call;
 

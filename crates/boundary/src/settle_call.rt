@@ -3,7 +3,6 @@ ghost use mathlib.Core.Path.{_≡_};
 ghost use lib.ListN.{length};
 ghost use Rattle.boundary.specs.Calls.{settleCall, settleBytes};
 ghost use Rattle.boundary.specs.Whole.{Lengths, JustRoom, wholeNumbers, SettledBytes};
-use crate::lent::numbers_in;
 use crate::packing::pack;
 
 // Settles numbers into lines, for which there is just the room, and writes the bytes of the lines.
@@ -56,8 +55,8 @@ pub fn settle_bytes(winter: u32, book: &[u8], price: u32, list: &[u8], out: &mut
     ensures { λ r. ⌜ r ≡ settleCall winter (now (book .entry)) price (now (list .entry)) (length (now (out .entry))) ⌝ }
     ensures { λ _. ⌜ now (out .exit) ≡ settleBytes winter (now (book .entry)) price (now (list .entry)) (now (out .entry)) ⌝ }
 {
-    let readings = numbers_in(book.len());
-    let numbers = numbers_in(list.len());
+    let readings = wire::numbers_in(book.len());
+    let numbers = wire::numbers_in(list.len());
     let number = credit::call_refusal(winter, readings, price, numbers, out.len() / 8);
     if number != 0 {
         return pack(number, 0);

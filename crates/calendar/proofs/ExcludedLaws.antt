@@ -1,34 +1,35 @@
 -- Laws of the excluded days: one for each way out of the walk over the fixed days and of the test.
 -- Assumes nothing.
 use Prim.Native.Nat.{ℕ, _+_, _≤_, _<_}
-use mathlib.Core.Bool.{true, false, _||_}
+use mathlib.Core.Bool.{true, false, _||_, true≢false}
 use mathlib.Core.List.{List}
-use mathlib.Core.Path.{_≡_}
+use mathlib.Core.Path.{_≡_, sym, _∙_}
 use native.Mathlib.Numerals.{add-one}
 use native.Mathlib.Omega.{arith}
-use lib.Dec.{eqb}
+use lib.Dec.{ltb, eqb}
 use lib.ListN.{length, getD, drop}
 use lib.Seq.{drop-cons}
-use borrow.Author.Tests.{eq-eqb, ne-eqb}
+use borrow.Author.Tests.{eq-eqb, ne-eqb, le-ltb}
+use Rattle.laws.proofs.Guards.{no-fault}
 use Rattle.calendar.specs.Excluded.{among, fixedDays, goodFriday, easterMonday, excluded}
 use Rattle.calendar.specs.Days.{noDay}
 use Rattle.calendar.specs.declared.answers.Winter.{Winter}
 
--- no day before the first fixed one is one of them
-pub before-fixed : (d : ℕ) → d < 53 → false ≡ among d fixedDays
+-- no day before the first fixed one or after the last is one of them
+pub not-fixed : (d : ℕ) → (ltb d 53 || ltb 62 d) ≡ true → false ≡ among d fixedDays
 unfolding among
-before-fixed d h =
+not-fixed d h =
     rw (
-      ne-eqb 53 d (differ 53 (omega arith)),
-      ne-eqb 54 d (differ 54 (omega arith)),
-      ne-eqb 55 d (differ 55 (omega arith)),
-      ne-eqb 60 d (differ 60 (omega arith)),
-      ne-eqb 61 d (differ 61 (omega arith)),
-      ne-eqb 62 d (differ 62 (omega arith)),
+      ne-eqb 53 d (differ 53 (omega arith) (omega arith)),
+      ne-eqb 54 d (differ 54 (omega arith) (omega arith)),
+      ne-eqb 55 d (differ 55 (omega arith) (omega arith)),
+      ne-eqb 60 d (differ 60 (omega arith) (omega arith)),
+      ne-eqb 61 d (differ 61 (omega arith) (omega arith)),
+      ne-eqb 62 d (differ 62 (omega arith) (omega arith)),
     )
   where
-    differ : (x : ℕ) → 53 ≤ x → x ≡ d → ⊥
-    differ x r q = omega arith
+    differ : (x : ℕ) → 53 ≤ x → x ≤ 62 → x ≡ d → ⊥
+    differ x r s q = true≢false (sym h ∙ no-fault (ltb d 53) (ltb 62 d) (le-ltb d 53 (omega arith)) (le-ltb 62 d (omega arith)))
 
 pub among-found : (d : ℕ) (xs : List ℕ) (i : ℕ) → i < length xs → getD xs i 0 ≡ d → among d (drop i xs) ≡ true
 unfolding among

@@ -8,11 +8,11 @@ use crate::answers::Winter;
 // 24, 25, 26, 31 December, 1 and 2 January.
 const FIXED_DAYS: [u32; 6] = [53, 54, 55, 60, 61, 62];
 
-// Whether a day is one of the six fixed days. No day before the first is looked up.
+// Whether a day is one of the six fixed days. No day before the first or after the last is looked up.
 fn is_fixed(day: u32) -> bool
     ensures { λ r. ⌜ r ≡ among day fixedDays ⌝ }
 {
-    if day < 53 {
+    if (day < 53) | (62 < day) {
         return false;
     }
     let mut i: usize = 0;

@@ -7,7 +7,7 @@ use mathlib.Core.Path.{_≡_}
 use lib.ListN.{length}
 use Rattle.boundary.proofs.Told.{check-told, settle-told, refused-unwritten}
 use Rattle.boundary.specs.Calls.{checkCall, settleCall, settleBytes}
-use Rattle.boundary.specs.Lent.{decoded}
+use Rattle.wire.specs.Decoded.{decoded}
 use Rattle.credit.proofs.Exact.{settlement-tells, refused-untouched, refused-totals}
 use Rattle.credit.specs.Refusals.{settlementTable}
 use Rattle.credit.specs.Settlement.{settlement, written}

@@ -9,7 +9,7 @@ use native.Mathlib.Omega.{arith}
 use lib.ListN.{length, replicate}
 use Rattle.boundary.proofs.Told.{check-told, settle-told, accepted-told}
 use Rattle.boundary.specs.Calls.{checkCall, settleCall, settleBytes}
-use Rattle.boundary.specs.Lent.{decoded}
+use Rattle.wire.specs.Decoded.{decoded}
 use Rattle.calendar.specs.WinterOf.{winterOf}
 use Rattle.credit.proofs.Demands.{line-is-answer}
 use Rattle.credit.proofs.Exact.{Settles, accepted-iff-settles}

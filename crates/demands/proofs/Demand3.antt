@@ -5,7 +5,7 @@ use mathlib.Core.List.{List}
 use mathlib.Core.Path.{_≡_}
 use lib.ListN.{length, replicate}
 use Rattle.boundary.specs.Calls.{settleCall, settleBytes}
-use Rattle.boundary.specs.Lent.{decoded}
+use Rattle.wire.specs.Decoded.{decoded}
 use Rattle.credit.proofs.Demands.{run-within-a-cent, first-run-within-half, no-line-negative, cents-add-up, energies-add-up}
 use Rattle.credit.specs.Lines.{lineNumbers}
 use Rattle.credit.specs.Printed.{energyIn, centsIn}

@@ -6,10 +6,10 @@ use mathlib.Core.List.{List}
 use mathlib.Core.Path.{_≡_, ap, _∙_}
 use native.Mathlib.Omega.{arith}
 use lib.ListN.{length}
-use Rattle.boundary.proofs.LentLaws.{decoded-whole}
+use Rattle.wire.proofs.DecodedLaws.{decoded-whole}
 use Rattle.boundary.proofs.Told.{accepted-told}
 use Rattle.boundary.specs.Calls.{settleCall}
-use Rattle.boundary.specs.Lent.{decoded}
+use Rattle.wire.specs.Decoded.{decoded}
 use Rattle.credit.specs.Settlement.{settlement}
 use Rattle.laws.proofs.Every.{Every}
 use Rattle.wire.proofs.LentBack.{Fits, lent-long, lent-back}

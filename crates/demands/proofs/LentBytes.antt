@@ -8,7 +8,7 @@ use native.Mathlib.Omega.{arith}
 use lib.ListN.{length, getD, drop, replicate, length-replicate}
 use Rattle.boundary.proofs.Told.{settle-told, accepted-written}
 use Rattle.boundary.specs.Calls.{settleCall, settleBytes}
-use Rattle.boundary.specs.Lent.{decoded}
+use Rattle.wire.specs.Decoded.{decoded}
 use Rattle.credit.proofs.Exact.{accepted-iff-settles}
 use Rattle.credit.proofs.SettlementLaws.{settled-room, written-just}
 use Rattle.credit.specs.Lines.{lineNumbers}

@@ -7,7 +7,7 @@ use Rattle.book.specs.Places.{hoursFrom, placesOn}
 use Rattle.book.specs.Readings.{firstFault, sumOver}
 use Rattle.book.specs.Values.{faultOf}
 use Rattle.boundary.specs.Calls.{checkCall}
-use Rattle.boundary.specs.Lent.{decoded}
+use Rattle.wire.specs.Decoded.{decoded}
 use Rattle.calendar.specs.Answers.{easterSunday}
 use Rattle.calendar.specs.Easter.{noEasterYear, easterT, easterInBook}
 use Rattle.calendar.specs.Excluded.{among, goodFriday, easterMonday, excluded}

@@ -115,11 +115,6 @@ pub part-goes : (rows more : List Row) → NoneBroken rows → firstOf more ≡ 
 part-goes [] more t = refl
 part-goes (r ∷ rows) more t = row-goes r (rows ++ more) (t .0) (part-goes rows more (t .1))
 
-pub part-alike : (rows more other : List Row) → firstOf more ≡ firstOf other → firstOf (rows ++ more) ≡ firstOf (rows ++ other)
-unfolding firstOf
-part-alike [] more other e = e
-part-alike (r ∷ rows) more other e = rw (part-alike rows more other e)
-
 -- number and place of an answer, and those of all rows of a table, are bounded
 abbrev pub Bounded : Answer → Type 0
 Bounded a = (a .number ≤ largestNumber) × (getD (a .values) 0 0 ≤ largestPlace)

@@ -1,15 +1,15 @@
--- Bounds of the list check's answer, and what it makes of a list that is bad.
+-- Bounds of the list check's answer.
 -- Assumes nothing.
 use Prim.Native.Nat.{ℕ, _≤_}
-use mathlib.Core.Bool.{true, false}
+use mathlib.Core.Bool.{false}
 use mathlib.Core.List.{List, [], _∷_}
-use mathlib.Core.Path.{_≡_, refl, sym, subst, _∙_}
+use mathlib.Core.Path.{_≡_, sym, subst}
 use native.Mathlib.Omega.{arith}
 use lib.ListN.{length}
 use Rattle.calendar.specs.WinterOf.{winterOf}
 use Rattle.dates.specs.Winters.{noWinter}
 use Rattle.laws.proofs.RowLaws.{all-rows}
-use Rattle.laws.proofs.Tables.{Bounded, RowsBounded, bounded-first, bounded-parts, part-alike, row-stops}
+use Rattle.laws.proofs.Tables.{Bounded, RowsBounded, bounded-first, bounded-parts}
 use Rattle.laws.specs.Bounds.{largestNumber, largestPlace}
 use Rattle.laws.specs.Table.{Row, row, firstOf}
 use Rattle.notices.specs.Notices.{countOf}
@@ -43,17 +43,3 @@ check-bounded w l q =
 -- the same of a verdict
 pub verdict-bounded : (w q : ℕ) (l : List ℕ) (v : Verdict) → verdictPaper v ≡ checkAnswer w q l → (numberOf v ≤ largestNumber) × (placeOf v ≤ largestPlace)
 verdict-bounded w q l v e = subst Bounded (sym e) (check-bounded w l q)
-
--- two lists that number 4 refuses get the same answer, whatever they hold
-pub bad-lists-alike : (w q : ℕ) (l m : List ℕ) → badList (length l) ≡ true → badList (length m) ≡ true → checkAnswer w q l ≡ checkAnswer w q m
-unfolding checkAnswer checkTable
-bad-lists-alike w q l m bl bm =
-    part-alike (row 1 0 (noWinter w) ∷ row 5 0 (noProfile (named q)) ∷ [])
-    (row 4 0 (badList (length l)) ∷ noticesTable (winterOf w) (namedFigures (named q)) l)
-    (row 4 0 (badList (length m)) ∷ noticesTable (winterOf w) (namedFigures (named q)) m)
-    (sym (row-stops _ _ bl) ∙ row-stops _ _ bm)
-
--- one number is no list of notices
-pub one-is-bad : badList 1 ≡ true
-unfolding badList
-one-is-bad = refl

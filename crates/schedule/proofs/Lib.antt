@@ -1,6 +1,7 @@
 pub mod Accepted
 pub mod Bounds
 pub mod Lawful
+pub mod LentLaws
 pub mod NoticeRows
 pub mod PassedAll
 pub mod RuleLaws

@@ -46,7 +46,7 @@ number-back (v ∷ vs) (suc k) h fits =
     rw next (number-behind (fourBytes v) (lentBytes vs) 4 (4 * k) (four-long v) ∙ number-back vs k (omega arith) (fits .1))
 
 -- what stands at an index of the numbers of some bytes
-number-at : (bytes : List ℕ) (n k : ℕ) → k < n → getD (numbersTo bytes n) k 0 ≡ fourBytesAt bytes (4 * k)
+pub number-at : (bytes : List ℕ) (n k : ℕ) → k < n → getD (numbersTo bytes n) k 0 ≡ fourBytesAt bytes (4 * k)
 number-at bytes n k h =
     ap (λ (l : List ℕ). getD l k 0) (sym (append-nil (numbersTo bytes n)))
     ∙ ap (λ (i : ℕ). getD (numbersTo bytes n ++ []) i 0) (let e : k ≡ 1 * k + 0 = omega arith in e)

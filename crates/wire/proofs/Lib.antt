@@ -2,3 +2,4 @@ pub mod ReadLaws
 pub mod WriteLaws
 pub mod RoundTrip
 pub mod LentBack
+pub mod DecodedLaws

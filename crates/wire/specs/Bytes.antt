@@ -1,7 +1,9 @@
 -- Numbers as bytes, at the boundary to C: rule 9.2. A number that comes in has four bytes, one that goes out has eight.
 -- Assumes nothing.
 use Prim.Native.Nat.{ℕ, _+_, _*_, _/_, _%_, _^_, min}
+use mathlib.Core.Bool.{cond}
 use mathlib.Core.List.{List, [], _∷_}
+use lib.Dec.{ltb}
 use lib.ListN.{length, getD}
 use Rattle.laws.specs.Rows.{rowsTo, rowsOver, numbersOver}
 
@@ -12,6 +14,10 @@ fourBytesAt bytes i = getD bytes i 0 + 2 ^ 8 * getD bytes (i + 1) 0 + 2 ^ 16 * g
 -- the 64-bit number in the eight bytes from index i on, the lowest byte first: what a host reads
 abbrev pub eightBytesAt : List ℕ → ℕ → ℕ
 eightBytesAt bytes i = fourBytesAt bytes i + 2 ^ 32 * fourBytesAt bytes (i + 4)
+
+-- the number at an index of some bytes, 0 past their last whole number (rules 2.1 and 9.2)
+unfoldable pub numberAt : List ℕ → ℕ → ℕ
+numberAt bytes k = cond (ltb k (length bytes / 4)) (fourBytesAt bytes (4 * k)) 0
 
 -- the first k numbers of some bytes
 abbrev pub numbersTo : List ℕ → ℕ → List ℕ

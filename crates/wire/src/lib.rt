@@ -3,5 +3,7 @@ mod counts;
 mod reading;
 mod writing;
 
+pub use counts::numbers_in;
+pub use reading::number_at;
 pub use reading::read_numbers;
 pub use writing::write_numbers;

@@ -7,7 +7,7 @@ use native.Mathlib.Omega.{arith}
 use lib.ListN.{drop}
 use borrow.Author.Needs.{needs}
 use Rattle.calendar.specs.Excluded.{among, fixedDays}
-use Rattle.calendar.proofs.ExcludedLaws.{before-fixed, among-found, among-skip}
+use Rattle.calendar.proofs.ExcludedLaws.{not-fixed, among-found, among-skip}
 use Rattle.calendar.proofs.excluded.is_fixed.Statement.{statement}
 use Rattle.calendar.proofs.excluded.is_fixed.Tie as tie
 
@@ -18,7 +18,7 @@ abbrev μ-loop : tie.MeasureT-loop
 μ-loop day i₀ i = 6 - i
 
 returns : tie.Need-returns Inv-loop μ-loop
-returns c = before-fixed _ (c .if1 .taken)
+returns c = not-fixed _ (c .if1 .taken)
 
 loop-holds : tie.Need-loop-holds Inv-loop μ-loop
 loop-holds c = search needs

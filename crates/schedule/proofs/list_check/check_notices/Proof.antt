@@ -23,14 +23,20 @@ loop-holds c = walk-start _ _ _ _ _ (c .nothing-before .ensures)
 notice-in-requires : tie.Need-notice-in-requires Inv-loop μ-loop
 notice-in-requires c κs = search needs
 
+cast-own-verdict : tie.Need-cast-own-verdict Inv-loop μ-loop
+cast-own-verdict c = search needs
+
+own-verdict-requires : tie.Need-own-verdict-requires Inv-loop μ-loop
+own-verdict-requires c κs = search needs
+
 cast-notice-verdict : tie.Need-cast-notice-verdict Inv-loop μ-loop
 cast-notice-verdict c = search needs
 
 notice-verdict-requires : tie.Need-notice-verdict-requires Inv-loop μ-loop
 notice-verdict-requires c κs =
-    let loop = c .before .before in
+    let loop = c .before .before .before in
     let start = loop .before .before .before in
-    record { winter = start .pre .winter; figures = start .pre .figures; sofar = loop .loop .inv .small }
+    (record { winter = start .pre .winter; figures = start .pre .figures; sofar = loop .loop .inv .small }, c .own-verdict .ensures)
 
 is-refused-requires : tie.Need-is-refused-requires Inv-loop μ-loop
 is-refused-requires c κs = search needs
@@ -39,7 +45,7 @@ returns : tie.Need-returns Inv-loop μ-loop
 returns c =
     let asked = c .before in
     let judged = asked .before in
-    let read = judged .before in
+    let read = judged .before .before in
     let turn = read .before in
     walk-stop (turn .before .loop .inv) (read .notice-in .ensures) (judged .notice-verdict .ensures) (turn .loop-test .taken)
     (found (asked .is-refused .ensures) (c .if1 .taken))
@@ -48,7 +54,7 @@ after-notice-requires : tie.Need-after-notice-requires Inv-loop μ-loop
 after-notice-requires c κs =
     let asked = c .before in
     let judged = asked .before in
-    let read = judged .before in
+    let read = judged .before .before in
     let loop = read .before .before in
     let start = loop .before .before .before in
     walk-fits (loop .loop .inv) (read .notice-in .ensures) (judged .notice-verdict .ensures) (start .pre .figures)
@@ -65,7 +71,7 @@ loop-again c =
     let kept = c .before in
     let asked = kept .before in
     let judged = asked .before in
-    let read = judged .before in
+    let read = judged .before .before in
     let turn = read .before in
     let loop = turn .before in
     let start = loop .before .before .before in
@@ -84,6 +90,8 @@ check-notices-spec =
     nothing-before-requires
     loop-holds
     notice-in-requires
+    cast-own-verdict
+    own-verdict-requires
     cast-notice-verdict
     notice-verdict-requires
     is-refused-requires

@@ -23,11 +23,11 @@ smaller-requires c κs = search needs
 loop-holds : tie.Need-loop-holds Inv-loop μ-loop
 loop-holds c = filled-none
 
-mul-number-at : tie.Need-mul-number-at Inv-loop μ-loop
-mul-number-at c = omega arith
+mul-four-bytes-at : tie.Need-mul-four-bytes-at Inv-loop μ-loop
+mul-four-bytes-at c = omega arith
 
-number-at-requires : tie.Need-number-at-requires Inv-loop μ-loop
-number-at-requires c κs = omega arith
+four-bytes-at-requires : tie.Need-four-bytes-at-requires Inv-loop μ-loop
+four-bytes-at-requires c κs = omega arith
 
 mul-numbers : tie.Need-mul-numbers Inv-loop μ-loop
 mul-numbers c = omega arith
@@ -43,7 +43,7 @@ loop-less c = omega arith
 
 loop-again : tie.Need-loop-again Inv-loop μ-loop
 loop-again c =
-    filled-set (c .before .before .loop .inv) (omega arith) (c .before .loop-test .taken) (c .number-at .ensures)
+    filled-set (c .before .before .loop .inv) (omega arith) (c .before .loop-test .taken) (c .four-bytes-at .ensures)
 
 same-length : tie.Need-same-length Inv-loop μ-loop
 same-length c = c .before .loop .inv .size
@@ -60,8 +60,8 @@ read-numbers-spec =
     μ-loop
     smaller-requires
     loop-holds
-    mul-number-at
-    number-at-requires
+    mul-four-bytes-at
+    four-bytes-at-requires
     mul-numbers
     slice-write-numbers
     add-i

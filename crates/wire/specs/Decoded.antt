@@ -5,8 +5,7 @@ use mathlib.Core.Bool.{cond}
 use mathlib.Core.List.{List}
 use lib.Dec.{eqb}
 use lib.ListN.{length, replicate}
-use Rattle.schedule.specs.ListCheck.{badList}
 use Rattle.wire.specs.Bytes.{numbersTo}
 
 -- more numbers than any book or list has (rule 9.3)
 abbrev pub tooMany : ℕ
@@ -18,7 +17,3 @@ numberCount length = cond (eqb (length % 4) 0) (length / 4) tooMany
 
 unfoldable pub decoded : List ℕ → List ℕ
 decoded bytes = cond (eqb (length bytes % 4) 0) (numbersTo bytes (length bytes / 4)) (replicate tooMany 0)
-
--- how many numbers of a list are read: all, or just one where there are too many or bytes over
-unfoldable pub listRoom : ℕ → ℕ
-listRoom length = cond (badList (numberCount length)) 1 (numberCount length)

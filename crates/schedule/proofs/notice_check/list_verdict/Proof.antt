@@ -4,8 +4,8 @@ use borrow.Author.Needs.{needs}
 use Rattle.laws.proofs.Guards.{found}
 use Rattle.laws.proofs.Tables.{row-stops, row-goes, rows-end}
 use Rattle.schedule.specs.ListCheck.{listRows}
-use Rattle.schedule.proofs.list_check.list_verdict.Statement.{statement}
-use Rattle.schedule.proofs.list_check.list_verdict.Tie as tie
+use Rattle.schedule.proofs.notice_check.list_verdict.Statement.{statement}
+use Rattle.schedule.proofs.notice_check.list_verdict.Tie as tie
 
 starts-before-requires : tie.Need-starts-before-requires
 starts-before-requires c κs = search needs

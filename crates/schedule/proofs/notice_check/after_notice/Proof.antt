@@ -2,8 +2,8 @@
 -- Assumes nothing.
 use borrow.Author.Needs.{needs}
 use Rattle.schedule.specs.ListCheck.{afterNotice}
-use Rattle.schedule.proofs.list_check.after_notice.Statement.{statement}
-use Rattle.schedule.proofs.list_check.after_notice.Tie as tie
+use Rattle.schedule.proofs.notice_check.after_notice.Statement.{statement}
+use Rattle.schedule.proofs.notice_check.after_notice.Tie as tie
 
 hours-of-requires : tie.Need-hours-of-requires
 hours-of-requires c κs = search needs

@@ -1,9 +1,9 @@
--- `numbers_in` counts whole numbers, or one where bytes are over.
+-- `numbers_in` counts whole numbers, or too many where bytes are over.
 -- Assumes nothing.
 use borrow.Author.Tests.{eq-eqb, ne-eqb}
-use Rattle.boundary.specs.Lent.{numberCount}
-use Rattle.boundary.proofs.lent.numbers_in.Statement.{statement}
-use Rattle.boundary.proofs.lent.numbers_in.Tie as tie
+use Rattle.wire.specs.Decoded.{numberCount}
+use Rattle.wire.proofs.counts.numbers_in.Statement.{statement}
+use Rattle.wire.proofs.counts.numbers_in.Tie as tie
 
 returns : tie.Need-returns
 unfolding numberCount

@@ -1,12 +1,13 @@
--- `check` answers 1 for no winter, then 5 for no profile, else by the list in that winter.
+-- `check_lent` answers 1 for no winter, then 5 for no profile, else by the list in that winter.
 -- Assumes nothing.
 use borrow.Author.Needs.{needs}
 use Rattle.calendar.proofs.OneOutcome.{no-winter-known, winter-known}
+use Rattle.calendar.proofs.Promise.{facts-right}
 use Rattle.laws.proofs.Tables.{row-stops, row-goes}
 use Rattle.schedule.specs.ListCheck.{checkTable, checkAnswer}
 use Rattle.schedule.proofs.RuleLaws.{no-profile, of-profile}
-use Rattle.schedule.proofs.list_check.check.Statement.{statement}
-use Rattle.schedule.proofs.list_check.check.Tie as tie
+use Rattle.schedule.proofs.lent_check.check_lent.Statement.{statement}
+use Rattle.schedule.proofs.lent_check.check_lent.Tie as tie
 
 winter-of-requires : tie.Need-winter-of-requires
 winter-of-requires c κs = search needs
@@ -37,8 +38,10 @@ returns-2 c =
     let is = winter-known _ _ _ (known .known .given .1) (known .before .before .winter-of .ensures) in
     row-goes _ _ (is .0) (row-stops _ _ (no-profile _ _ (c .before .before .profile-named .ensures) (c .enum-told2 .given .1)))
 
-check-in-requires : tie.Need-check-in-requires
-check-in-requires c κs = search needs
+check-lent-in-requires : tie.Need-check-lent-in-requires
+check-lent-in-requires c κs =
+    let known = c .before .before .before .before .before in
+    rw (winter-known _ _ _ (known .known .given .1) (known .before .before .winter-of .ensures) .1) (facts-right _)
 
 returns-3 : tie.Need-returns-3
 unfolding checkAnswer checkTable
@@ -47,10 +50,10 @@ returns-3 c =
     let known = named .before .before .before .before in
     let is = winter-known _ _ _ (known .known .given .1) (known .before .before .winter-of .ensures) in
     row-goes _ _ (is .0)
-    (of-profile _ _ _ _ _ _ (named .before .before .profile-named .ensures) (named .named .given .1) (is .1) (c .check-in .ensures))
+    (of-profile _ _ _ _ _ _ (named .before .before .profile-named .ensures) (named .named .given .1) (is .1) (c .check-lent-in .ensures))
 
-pub check-spec : {M : Type 1} → statement M
-check-spec =
+pub check-lent-spec : {M : Type 1} → statement M
+check-lent-spec =
     tie.close
     (tie.spec
     winter-of-requires
@@ -61,5 +64,5 @@ check-spec =
     enum-known-named
     enum-told-2
     returns-2
-    check-in-requires
+    check-lent-in-requires
     returns-3)

@@ -5,8 +5,8 @@ use Rattle.laws.proofs.Guards.{found}
 use Rattle.laws.proofs.Tables.{row-stops, row-goes, rows-end}
 use Rattle.schedule.specs.ListCheck.{ownRows}
 use Rattle.schedule.proofs.RuleLaws.{outside-on, in-period, excluded-on}
-use Rattle.schedule.proofs.list_check.own_verdict.Statement.{statement}
-use Rattle.schedule.proofs.list_check.own_verdict.Tie as tie
+use Rattle.schedule.proofs.notice_check.own_verdict.Statement.{statement}
+use Rattle.schedule.proofs.notice_check.own_verdict.Tie as tie
 
 kind-on-requires : tie.Need-kind-on-requires
 kind-on-requires c κs = search needs
