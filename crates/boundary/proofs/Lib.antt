@@ -1,3 +1,3 @@
-pub mod LentLaws
+pub mod RightLengths
 pub mod SettleLaws
 pub mod Told

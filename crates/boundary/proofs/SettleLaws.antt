@@ -24,7 +24,7 @@ use Rattle.boundary.specs.Calls.{packed, packedSettlement, linesOver, se
 use Rattle.wire.specs.Decoded.{numberCount, decoded}
 use Rattle.boundary.specs.Whole.{JustRoom, wholeNumbers, wholeCall, wholeBytes, SettledBytes}
 use Rattle.wire.proofs.DecodedLaws.{decoded-long, decoded-whole}
-use Rattle.boundary.proofs.LentLaws.{RightLengths, right-lengths}
+use Rattle.boundary.proofs.RightLengths.{RightLengths, right-lengths}
 
 -- what was read with just the room for it
 pub read-is : (bytes numbers : List ℕ) → length numbers ≡ length bytes / 4 → numbersRead bytes numbers ≡ wholeNumbers bytes
