@@ -17,13 +17,13 @@ use Rattle.credit.specs.Refusals.{callRows}
 use Rattle.credit.specs.Settlement.{refusedWith, settlement, written}
 use Rattle.credit.specs.declared.call.Settlement.{Settlement}
 use Rattle.notices.specs.Notices.{countIn, countOf}
+use Rattle.wire.proofs.DecodedLaws.{decoded-long, decoded-whole}
 use Rattle.wire.proofs.ReadLaws.{numbers-long, read-whole, read-long}
 use Rattle.wire.proofs.WriteLaws.{written-whole}
 use Rattle.wire.specs.Bytes.{numbersRead, bytesWritten}
-use Rattle.boundary.specs.Calls.{packed, packedSettlement, linesOver, settledOver, settleCall, settleBytes}
 use Rattle.wire.specs.Decoded.{numberCount, decoded}
+use Rattle.boundary.specs.Calls.{packed, packedSettlement, linesOver, settledOver, settleCall, settleBytes}
 use Rattle.boundary.specs.Whole.{JustRoom, wholeNumbers, wholeCall, wholeBytes, SettledBytes}
-use Rattle.wire.proofs.DecodedLaws.{decoded-long, decoded-whole}
 use Rattle.boundary.proofs.RightLengths.{RightLengths, right-lengths}
 
 -- what was read with just the room for it

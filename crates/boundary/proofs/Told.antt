@@ -14,8 +14,8 @@ use Rattle.credit.specs.Settlement.{settlement}
 use Rattle.credit.specs.declared.call.Settlement.{Settlement}
 use Rattle.schedule.proofs.Bounds.{check-bounded}
 use Rattle.schedule.specs.ListCheck.{checkAnswer}
-use Rattle.boundary.specs.Calls.{packed, checkCall, linesOver, settledOver, settleCall, settleBytes}
 use Rattle.wire.specs.Decoded.{decoded}
+use Rattle.boundary.specs.Calls.{packed, checkCall, linesOver, settledOver, settleCall, settleBytes}
 
 -- number and place of one packed number
 packed-told : (number place : ℕ) → place ≤ largestPlace → (packed number place / 65536 ≡ number) × (packed number place % 65536 ≡ place)

@@ -2,4 +2,5 @@ pub mod Bounds
 pub mod Promise
 pub mod ExcludedLaws
 pub mod FactLaws
+pub mod Answered
 pub mod OneOutcome

@@ -3,7 +3,7 @@
 use Prim.Native.Nat.{ℕ}
 use mathlib.Core.List.{List, []}
 use mathlib.Core.Path.{_≡_, ap, _∙_}
-use Rattle.calendar.proofs.OneOutcome.{no-winter-known, winter-known}
+use Rattle.calendar.proofs.Answered.{no-winter-known, winter-known}
 use Rattle.calendar.specs.Answers.{knownPaper, winterFacts}
 use Rattle.book.specs.Part.{dayReadings}
 use Rattle.calendar.specs.declared.answers.Known.the-variants.{Is, NoWinter}

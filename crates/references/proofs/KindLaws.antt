@@ -6,7 +6,7 @@ use mathlib.Core.Bool.{true, false, not}
 use mathlib.Core.Logic.{_⊎_, inl}
 use mathlib.Core.Path.{_≡_, refl}
 use native.Mathlib.Omega.{arith}
-use Rattle.calendar.proofs.OneOutcome.{day-known, no-day-known, right-known}
+use Rattle.calendar.proofs.Answered.{day-known, no-day-known, right-known}
 use Rattle.calendar.proofs.Promise.{book-day, day-there, past-period}
 use Rattle.calendar.specs.Answers.{kindPaper, dayKind}
 use Rattle.calendar.specs.Days.{wrongWinter, noDay, inPeriod}

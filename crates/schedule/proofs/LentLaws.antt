@@ -8,7 +8,7 @@ use native.Mathlib.Omega.{arith}
 use lib.ListN.{length, getD, take, drop}
 use Rattle.notices.proofs.NoticeLaws.{notice-read}
 use Rattle.notices.specs.Notices.{noticeNumbers, mostNotices, countIn, countOf, noticeAt}
-use Rattle.wire.proofs.DecodedLaws.{decoded-long, whole-long, Whole, whole-numbers, number-in}
+use Rattle.wire.proofs.DecodedLaws.{decoded-long, decoded-fourth, Whole, whole-numbers, number-in}
 use Rattle.wire.specs.Bytes.{numberAt}
 use Rattle.wire.specs.Decoded.{numberCount, decoded}
 use Rattle.schedule.specs.ListCheck.{badList}
@@ -38,7 +38,7 @@ noticeBytes = 4 * noticeNumbers
 -- these bytes of a notice are its numbers
 module _ (bytes : List ℕ) (k : ℕ) (whole : length bytes % 4 ≡ 0) (there : k < countOf (decoded bytes)) where
   pub lent-there : k * noticeBytes + noticeBytes ≤ length bytes
-  lent-there = omega (arith, whole-long bytes whole)
+  lent-there = omega (arith, decoded-fourth bytes whole)
 
   -- as the code cuts them out
   abbrev part : List ℕ

@@ -27,8 +27,8 @@ pub decoded-whole : (bytes : List ℕ) → length bytes % 4 ≡ 0 → decoded by
 unfolding decoded
 decoded-whole bytes e = rw (eq-eqb (length bytes % 4) 0 e)
 
-pub whole-long : (bytes : List ℕ) → length bytes % 4 ≡ 0 → length (decoded bytes) ≡ length bytes / 4
-whole-long bytes e = ap length (decoded-whole bytes e) ∙ numbers-long bytes (length bytes / 4)
+pub decoded-fourth : (bytes : List ℕ) → length bytes % 4 ≡ 0 → length (decoded bytes) ≡ length bytes / 4
+decoded-fourth bytes e = ap length (decoded-whole bytes e) ∙ numbers-long bytes (length bytes / 4)
 
 -- so many bytes are whole numbers
 pub record Whole (n : ℕ) : Type 0 where

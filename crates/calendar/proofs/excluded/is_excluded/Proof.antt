@@ -22,7 +22,10 @@ add-result-2 : tie.Need-add-result-2
 add-result-2 c = search needs
 
 returns-2 : tie.Need-returns-2
-returns-2 c = excluded-easter _ _ (found (c .before .before .is-fixed .ensures) (c .before .if1 .left)) (c .before .before .before .pre)
+returns-2 c =
+    let other = c .before in
+    let looked = other .before in
+    excluded-easter _ _ (found (looked .is-fixed .ensures) (other .if1 .left)) (looked .before .pre)
 
 pub is-excluded-spec : {M : Type 1} → statement M
 is-excluded-spec =

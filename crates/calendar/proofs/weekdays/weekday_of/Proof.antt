@@ -4,7 +4,7 @@ use borrow.Author.Needs.{needs}
 use Rattle.laws.proofs.Refusals.{refused}
 use Rattle.calendar.specs.Answers.{weekdayOf}
 use Rattle.calendar.proofs.FactLaws.{no-weekday, weekday-given}
-use Rattle.calendar.proofs.OneOutcome.{no-winter-known, winter-known}
+use Rattle.calendar.proofs.Answered.{no-winter-known, winter-known}
 use Rattle.calendar.proofs.weekdays.weekday_of.Statement.{statement}
 use Rattle.calendar.proofs.weekdays.weekday_of.Tie as tie
 

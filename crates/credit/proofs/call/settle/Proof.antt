@@ -5,7 +5,7 @@ use borrow.Author.Needs.{needs}
 use mathlib.Core.Bool.{true≢false}
 use mathlib.Core.Path.{sym, _∙_}
 use lib.ListN.{length}
-use Rattle.calendar.proofs.OneOutcome.{no-winter-known, winter-known}
+use Rattle.calendar.proofs.Answered.{no-winter-known, winter-known}
 use Rattle.dates.proofs.Promise.{winter-range}
 use Rattle.credit.proofs.RefusalLaws.{refusal-notices, call-is-right, right-fits}
 use Rattle.credit.proofs.SettlementLaws.{call-refused, call-unwritten}

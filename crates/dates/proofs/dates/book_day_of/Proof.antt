@@ -40,22 +40,31 @@ month-length-requires c κs =
 
 day-in-month-requires : tie.Need-day-in-month-requires Inv-loop μ-loop
 day-in-month-requires c κs =
-    omega (arith, length-small (c .before .before .before .before .before .before .args .winter) (c .before .before .before .loop .i))
+    let loop = c .before .before .before in
+    let start = loop .before .before .before in
+    omega (arith, length-small (start .args .winter) (loop .loop .i))
 
 returns-2 : tie.Need-returns-2 Inv-loop μ-loop
 unfolding bookDayOf
 returns-2 c =
-    let at = c .before .before .before .before .loop in
-    kept _ (found (c .before .before .before .before .before .before .no-winter .ensures) (c .before .before .before .before .before .if1 .left))
+    let hit = c .before in
+    let measured = hit .before in
+    let turn = measured .before in
+    let loop = turn .before in
+    let right = loop .before in
+    kept _ (found (right .before .no-winter .ensures) (right .if1 .left))
     (c .day-in-month .ensures
-    ∙ book-day-here _ (at .i) _ (c .before .before .before .loop-test .taken) (c .before .before .month-length .ensures) _ _ _ _ (c .before .if2 .taken)
-    ∙ at .inv .2)
+    ∙ book-day-here _ (loop .loop .i) _ (turn .loop-test .taken) (measured .month-length .ensures) _ _ _ _ (hit .if2 .taken)
+    ∙ loop .loop .inv .2)
 
 add-now : tie.Need-add-now Inv-loop μ-loop
 add-now c = search needs
 
 add-first : tie.Need-add-first Inv-loop μ-loop
-add-first c = omega (arith, length-small (c .before .before .before .before .before .before .args .winter) (c .before .before .before .loop .i))
+add-first c =
+    let loop = c .before .before .before in
+    let start = loop .before .before .before in
+    omega (arith, length-small (start .args .winter) (loop .loop .i))
 
 add-i : tie.Need-add-i Inv-loop μ-loop
 add-i c = search needs
@@ -65,17 +74,23 @@ loop-less c = search needs
 
 loop-again : tie.Need-loop-again Inv-loop μ-loop
 loop-again c =
-    let at = c .before .before .before .loop in (
+    let measured = c .before in
+    let turn = measured .before in
+    let loop = turn .before in
+    let start = loop .before .before .before in
+    let at = loop .loop in (
       search needs,
-      omega (arith, length-small (c .before .before .before .before .before .before .args .winter) (at .i)),
-      book-day-next _ (at .i) _ (c .before .before .loop-test .taken) (c .before .month-length .ensures) _ _ _ _ (c .if2 .left) ∙ at .inv .2,
+      omega (arith, length-small (start .args .winter) (at .i)),
+      book-day-next _ (at .i) _ (turn .loop-test .taken) (measured .month-length .ensures) _ _ _ _ (c .if2 .left) ∙ at .inv .2,
     )
 
 returns-3 : tie.Need-returns-3 Inv-loop μ-loop
 unfolding bookDayOf
 returns-3 c =
-    kept _ (found (c .before .before .before .no-winter .ensures) (c .before .before .if1 .left))
-    (book-day-end _ (c .before .loop .i) _ _ _ _ (omega arith) ∙ c .before .loop .inv .2)
+    let loop = c .before in
+    let right = loop .before in
+    kept _ (found (right .before .no-winter .ensures) (right .if1 .left))
+    (book-day-end _ (loop .loop .i) _ _ _ _ (omega arith) ∙ loop .loop .inv .2)
 
 pub book-day-of-spec : {M : Type 1} → statement M
 book-day-of-spec =

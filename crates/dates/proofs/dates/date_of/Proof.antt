@@ -38,14 +38,20 @@ month-length-requires c κs =
     (search needs, omega (arith, is))
 
 add-t9 : tie.Need-add-t9 Inv-loop μ-loop
-add-t9 c = omega (arith, length-small (c .before .before .before .before .before .before .args .winter) (c .before .before .before .loop .i))
+add-t9 c =
+    let loop = c .before .before .before in
+    let start = loop .before .before .before in
+    omega (arith, length-small (start .args .winter) (loop .loop .i))
 
 returns-2 : tie.Need-returns-2 Inv-loop μ-loop
 unfolding dateOf
 returns-2 c =
-    let at = c .before .before .before .loop in
-    kept _ (found (c .before .before .before .before .before .no-winter .ensures) (c .before .before .before .before .if1 .left))
-    (date-here _ (at .i) _ (c .before .before .loop-test .taken) (c .before .month-length .ensures) _ _ (c .if2 .taken) ∙ at .inv .1)
+    let measured = c .before in
+    let turn = measured .before in
+    let loop = turn .before in
+    let right = loop .before in
+    kept _ (found (right .before .no-winter .ensures) (right .if1 .left))
+    (date-here _ (loop .loop .i) _ (turn .loop-test .taken) (measured .month-length .ensures) _ _ (c .if2 .taken) ∙ loop .loop .inv .1)
 
 add-month : tie.Need-add-month Inv-loop μ-loop
 add-month c = search needs
@@ -58,14 +64,18 @@ loop-less c = search needs
 
 loop-again : tie.Need-loop-again Inv-loop μ-loop
 loop-again c =
-    let at = c .before .before .before .loop in
-    (search needs, date-next _ (at .i) _ (c .before .before .loop-test .taken) (c .before .month-length .ensures) _ _ (c .if2 .left) ∙ at .inv .1)
+    let measured = c .before in
+    let turn = measured .before in
+    let at = turn .before .loop in
+    (search needs, date-next _ (at .i) _ (turn .loop-test .taken) (measured .month-length .ensures) _ _ (c .if2 .left) ∙ at .inv .1)
 
 returns-3 : tie.Need-returns-3 Inv-loop μ-loop
 unfolding dateOf
 returns-3 c =
-    kept _ (found (c .before .before .before .no-winter .ensures) (c .before .before .if1 .left))
-    (date-end _ (c .before .loop .i) _ _ (omega arith) ∙ c .before .loop .inv .1)
+    let loop = c .before in
+    let right = loop .before in
+    kept _ (found (right .before .no-winter .ensures) (right .if1 .left))
+    (date-end _ (loop .loop .i) _ _ (omega arith) ∙ loop .loop .inv .1)
 
 pub date-of-spec : {M : Type 1} → statement M
 date-of-spec =

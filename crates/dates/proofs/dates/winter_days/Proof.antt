@@ -39,7 +39,10 @@ month-length-requires c κs =
     (search needs, omega (arith, is))
 
 add-days : tie.Need-add-days Inv-loop μ-loop
-add-days c = omega (arith, length-small (c .before .before .before .before .before .args .winter) (c .before .before .loop .i))
+add-days c =
+    let loop = c .before .before in
+    let start = loop .before .before .before in
+    omega (arith, length-small (start .args .winter) (loop .loop .i))
 
 add-i : tie.Need-add-i Inv-loop μ-loop
 add-i c = search needs
@@ -49,10 +52,13 @@ loop-less c = search needs
 
 loop-again : tie.Need-loop-again Inv-loop μ-loop
 loop-again c =
-    let at = c .before .before .loop in (
+    let turn = c .before in
+    let loop = turn .before in
+    let start = loop .before .before .before in
+    let at = loop .loop in (
       search needs,
-      omega (arith, length-small (c .before .before .before .before .before .args .winter) (at .i)),
-      together-next _ (at .i) _ (c .before .loop-test .taken) (c .month-length .ensures) (at .days) ∙ at .inv .2,
+      omega (arith, length-small (start .args .winter) (at .i)),
+      together-next _ (at .i) _ (turn .loop-test .taken) (c .month-length .ensures) (at .days) ∙ at .inv .2,
     )
 
 returns-2 : tie.Need-returns-2 Inv-loop μ-loop

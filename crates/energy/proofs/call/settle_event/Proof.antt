@@ -1,7 +1,7 @@
 -- `settle_event` asks the calendar once for the kind of the day. It refuses with 1 where the facts are no winter's; a day past the book is in no
 -- winter period, and 10 comes after 2.
 -- Assumes nothing.
-use Rattle.calendar.proofs.OneOutcome.{wrong-known}
+use Rattle.calendar.proofs.Answered.{wrong-known}
 use Rattle.laws.proofs.Guards.{found}
 use Rattle.laws.proofs.Tables.{row-stops, row-goes}
 use Rattle.energy.specs.Line.{eventRows}

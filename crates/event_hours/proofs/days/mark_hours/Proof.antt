@@ -31,7 +31,8 @@ element-copy-out-masks c =
 
 element-write-masks : tie.Need-element-write-masks
 element-write-masks c =
-    let m = marks _ (found (c .before .before .before .before .marks-none .ensures) (c .before .before .before .if1 .left)) in
+    let some = c .before .before .before in
+    let m = marks _ (found (some .before .marks-none .ensures) (some .if1 .left)) in
     omega arith
 
 returns-2 : tie.Need-returns-2

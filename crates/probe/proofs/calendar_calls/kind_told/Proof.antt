@@ -37,7 +37,9 @@ enum-told-2 c = search needs
 
 returns : tie.Need-returns
 returns c =
-    rw (c .before .before .before .before .kind .given .1, ← c .before .before .bit-of .ensures .0, ← c .before .bit-of2 .ensures .0, ← c .bit-of3 .ensures .0)
+    let weekend-told = c .before in
+    let period-told = weekend-told .before in
+    rw (period-told .before .before .kind .given .1, ← period-told .bit-of .ensures .0, ← weekend-told .bit-of2 .ensures .0, ← c .bit-of3 .ensures .0)
     (omega arith)
 
 returns-2 : tie.Need-returns-2

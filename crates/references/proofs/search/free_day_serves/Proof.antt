@@ -1,7 +1,7 @@
 -- `free_day_serves` goes by the kind of the day, which is a book day, so that the two other cases do not come up.
 -- Assumes nothing.
 use mathlib.Core.Logic.{inl, inr}
-use Rattle.calendar.proofs.OneOutcome.{day-known}
+use Rattle.calendar.proofs.Answered.{day-known}
 use Rattle.references.specs.Search.{freeServes}
 use Rattle.references.proofs.KindLaws.{never-past}
 use borrow.Author.Needs.{needs}

@@ -1,7 +1,7 @@
 -- `reference_days` asks the calendar for the kind of the event day: of a book day it gives the nearest days, else none.
 -- Assumes nothing.
 use mathlib.Core.Path.{_∙_}
-use Rattle.calendar.proofs.OneOutcome.{wrong-known}
+use Rattle.calendar.proofs.Answered.{wrong-known}
 use Rattle.references.proofs.FoundLaws.{refs-given, refs-no-winter, refs-no-day}
 use Rattle.references.proofs.KindLaws.{told-day, told-past}
 use borrow.Author.Needs.{needs}

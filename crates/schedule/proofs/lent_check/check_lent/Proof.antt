@@ -1,7 +1,7 @@
 -- `check_lent` answers 1 for no winter, then 5 for no profile, else by the list in that winter.
 -- Assumes nothing.
 use borrow.Author.Needs.{needs}
-use Rattle.calendar.proofs.OneOutcome.{no-winter-known, winter-known}
+use Rattle.calendar.proofs.Answered.{no-winter-known, winter-known}
 use Rattle.calendar.proofs.Promise.{facts-right}
 use Rattle.laws.proofs.Tables.{row-stops, row-goes}
 use Rattle.schedule.specs.ListCheck.{checkTable, checkAnswer}

@@ -3,7 +3,7 @@
 use borrow.Author.Needs.{needs}
 use mathlib.Core.Logic.{inl, inr}
 use mathlib.Core.Path.{refl}
-use Rattle.calendar.proofs.OneOutcome.{day-known, no-day-known}
+use Rattle.calendar.proofs.Answered.{day-known, no-day-known}
 use Rattle.schedule.proofs.RuleLaws.{past-on}
 use Rattle.schedule.proofs.rules.kind_on.Statement.{statement}
 use Rattle.schedule.proofs.rules.kind_on.Tie as tie

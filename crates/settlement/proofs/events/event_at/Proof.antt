@@ -19,7 +19,10 @@ event-of-requires c κs = search needs
 
 returns : tie.Need-returns
 unfolding eventIn
-returns c = rw (c .event-of .ensures, c .before .settle-event .ensures, c .before .before .event-on .ensures, c .before .before .before .notice-at .ensures)
+returns c =
+    let settled = c .before in
+    let found = settled .before in
+    rw (c .event-of .ensures, settled .settle-event .ensures, found .event-on .ensures, found .before .notice-at .ensures)
 
 pub event-at-spec : {M : Type 1} → statement M
 event-at-spec =
