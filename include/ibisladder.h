@@ -57,9 +57,9 @@ extern "C" {
  * with another. What may differ is the words of the two _text functions, the times and, below IBISLADDER_STACK_BYTES, the stack.
  */
 #define IBISLADDER_VERSION_MAJOR 0
-#define IBISLADDER_VERSION_MINOR 1
+#define IBISLADDER_VERSION_MINOR 2
 #define IBISLADDER_VERSION_PATCH 0
-#define IBISLADDER_VERSION "0.1.0"
+#define IBISLADDER_VERSION "0.2.0"
 
 /* Sizes and bounds. */
 #define IBISLADDER_FIRST_WINTER 2010u
@@ -88,7 +88,7 @@ enum ibisladder_profile {
 };
 
 /*
- * Why a call is refused: the number of its answer. The place of 10 to 18 is the index of the notice, from 0; that of the others
+ * Why a call is refused: the number of its answer. The place of 10 to 27 is the index of the notice, from 0; that of the others
  * is 0. Of several reasons the first of the call's order is given, which is said at each call.
  */
 enum ibisladder_refusal {
@@ -102,11 +102,13 @@ enum ibisladder_refusal {
     IBISLADDER_REFUSED_DAY = 10,      /* the day is outside the winter period, days 30 to N-1 */
     IBISLADDER_REFUSED_EXCLUDED = 11, /* 24, 25, 26, 31 December, 1, 2 January, Good Friday or Easter Monday */
     IBISLADDER_REFUSED_WEEKEND = 12,  /* a Saturday or Sunday, under profile 2 */
-    IBISLADDER_REFUSED_HOURS = 13,    /* the hours are empty, reversed or not inside one band of the profile */
+    IBISLADDER_REFUSED_HOURS = 13,    /* the end is not after the start, as where the two are swapped */
     IBISLADDER_REFUSED_LENGTH = 14,   /* the profile does not allow so few or so many hours */
     IBISLADDER_REFUSED_ORDER = 15,    /* it starts before the notice before it ends, as a notice given twice does */
     IBISLADDER_REFUSED_BAND = 16,     /* it is on the day and in the band of the notice before it */
-    IBISLADDER_REFUSED_TOTAL = 18     /* with it the hours of the list pass 100 */
+    IBISLADDER_REFUSED_TOTAL = 18,    /* with it the hours of the list pass 100 */
+    IBISLADDER_REFUSED_NO_BAND = 26,  /* no hour lies in a band of the profile */
+    IBISLADDER_REFUSED_ACROSS = 27    /* some hours do, but not all in one band, as where the start is mistyped */
 };
 
 /* How an event was settled: the first number of its line. A line that is not settled has energy 0, and stops no other. */
@@ -149,11 +151,13 @@ static inline const char *ibisladder_refusal_text(uint32_t number)
     case IBISLADDER_REFUSED_DAY: return "the day is outside the winter period, 1 December to 31 March";
     case IBISLADDER_REFUSED_EXCLUDED: return "the day is excluded";
     case IBISLADDER_REFUSED_WEEKEND: return "this profile has no events on weekends";
-    case IBISLADDER_REFUSED_HOURS: return "the hours are empty, reversed or not inside one band";
+    case IBISLADDER_REFUSED_HOURS: return "the end is not after the start";
     case IBISLADDER_REFUSED_LENGTH: return "this profile has no events of this length";
     case IBISLADDER_REFUSED_ORDER: return "it starts before the notice before it ends";
     case IBISLADDER_REFUSED_BAND: return "the day and band have a notice already";
     case IBISLADDER_REFUSED_TOTAL: return "with it the events have more than 100 hours";
+    case IBISLADDER_REFUSED_NO_BAND: return "no hour is in a band of this profile";
+    case IBISLADDER_REFUSED_ACROSS: return "not all hours are in one band of this profile";
     default: return "a refusal that this version does not have";
     }
 }
@@ -172,8 +176,8 @@ static inline const char *ibisladder_event_text(uint64_t code)
 /*
  * Whether the notices of a list can stand together under a profile. list_length is in bytes: 12 a notice.
  *
- * Gives 0, or why not: 1, 5 and 4 in this order, then 10, 11, 12, 13, 14, 15, 16 and 18 in this order for the first notice, then
- * for the next. (Under profile 1 there is no 12 and no 14, under profile 2 no 16.) An empty list is accepted.
+ * Gives 0, or why not: 1, 5 and 4 in this order, then 10, 11, 12, 13, 26, 27, 14, 15, 16 and 18 in this order for the first
+ * notice, then for the next. (Under profile 1 there is no 12 and no 14, under profile 2 no 16.) An empty list is accepted.
  */
 uint32_t ibisladder_check(uint32_t winter, uint32_t profile, const uint8_t *list, size_t list_length);
 

@@ -90,12 +90,27 @@ def on_excluded_day(text, place):
     )
 
 
-def wrong_hours(text, place):
+def no_hours(text, place):
     """13."""
     _, start, end = text.notice(place)
-    if end <= start:
-        return "does not end after it starts; the last number is the hour at which it ends"
-    return "is not inside one band, 6:00 to 10:00 or 16:00 to 20:00"
+    look = "are the two swapped?" if end < start else "the last number is the hour at which it ends"
+    return f"does not end after it starts; {look}"
+
+
+def in_no_band(text, place):
+    """26."""
+    return (
+        "has no hour in a band, 6:00 to 10:00 or 16:00 to 20:00; hours are counted to 24, and 5:00"
+        " in the afternoon is 17"
+    )
+
+
+def across_band(text, place):
+    """27."""
+    return (
+        "has hours in a band, 6:00 to 10:00 or 16:00 to 20:00, but not all in one; is its start or"
+        " its end mistyped?"
+    )
 
 
 def too_early(text, place):
@@ -124,7 +139,7 @@ OF_TEXT = {
     1: wrong_winter, 3: wrong_price, 4: too_many_notices,
 }
 OF_NOTICE = {
-    10: outside_period, 11: on_excluded_day, 13: wrong_hours,
+    10: outside_period, 11: on_excluded_day, 13: no_hours, 26: in_no_band, 27: across_band,
     15: too_early, 16: same_band, 18: past_limit,
 }
 

@@ -22,6 +22,11 @@ from second.notices import PROFILES
 LEAST_ACCEPTED_PERCENT = 25
 LEAST_ACCEPTED_LONGER = 4_000
 
+# Of a notice's hours: none, none in a band, not all in one. A list of several notices has them at
+# its first, at its last and between.
+HOUR_NUMBERS = (13, 26, 27)
+WHERES = ("first", "between", "last")
+
 # No rule says it: profile 2's bands and lengths leave as many hours between any two events.
 LEAST_HOURS_BETWEEN = 7
 
@@ -40,6 +45,20 @@ def check_every_number(answered):
         number, _ = number_and_place(line) or (-1, 0)
         tally[f"profile {profile}" if profile in PROFILES else "neither", number] += 1
     check_every(tally, numbers.LIST_CHECK)
+
+
+def check_hours_everywhere(answered):
+    """Each number of the hours was given to the first notice of a list, to the last of one and to
+    one between, under either profile."""
+    tally = Counter()
+    for case, line in answered:
+        number, place = number_and_place(line) or (-1, 0)
+        if case.query.profile in PROFILES and number in HOUR_NUMBERS:
+            last = len(case.query.numbers) // 3 - 1
+            where = "first" if place == 0 else "last" if place == last else "between"
+            tally[f"profile {case.query.profile}, {where}", number] += last > 0
+    wheres = [f"profile {profile}, {where}" for profile in PROFILES for where in WHERES]
+    check_every(tally, {where: HOUR_NUMBERS for where in wheres})
 
 
 def accepted(answered):
@@ -86,6 +105,10 @@ def all_tests():
             partial(check_numbers_and_places, answered),
         ),
         ("every possible number was given", partial(check_every_number, answered)),
+        (
+            "13, 26 and 27 at the first notice, the last and between",
+            partial(check_hours_everywhere, answered),
+        ),
         ("enough lists were accepted", partial(check_accepted, answered)),
         (
             f"profile 2: events are {LEAST_HOURS_BETWEEN} hours apart or more",

@@ -17,7 +17,7 @@ from second import numbers, winters
 
 # The numbers that are given with a place, and the first place that each of them can have.
 # The winter's hours last for 25 notices at least.
-FIRST_PLACES = {10: 0, 11: 0, 13: 0, 15: 1, 16: 1, 18: 25, 30: 1, 31: 5}
+FIRST_PLACES = {10: 0, 11: 0, 13: 0, 26: 0, 27: 0, 15: 1, 16: 1, 18: 25, 30: 1, 31: 5}
 
 # Texts that are mostly refused would compare few lines: this share of them must be
 # accepted, and this many with a notice at least.

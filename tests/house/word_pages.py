@@ -10,6 +10,7 @@ from fractions import Fraction
 from common.harness import Failure
 from second import winters
 from second.energies import HOURS
+from second.notices import NOTICE_RULES
 from second.statements import LONGEST_TEXT, Refused, said, settled
 
 ANSWERED, REFUSED = 0, 3
@@ -22,6 +23,9 @@ MISSING = 21
 # The line of a refusal without a place, and of the first notice.
 LINES = {1: 1, 3: 2, 4: 3}
 FIRST_NOTICE = 4
+
+# The refusals that are about a notice.
+OF_NOTICE = {number for number, _ in NOTICE_RULES}
 
 # The odd things, by words of their sentences.
 LOW_PRICE, ALL_MISSING = "under one cent", "every event lacks"
@@ -114,7 +118,7 @@ def check_statement(told, given, page):
 
 def line_of(refused):
     """The line of the text that a refusal is about, 0 for none."""
-    if refused.number in range(10, 19):
+    if refused.number in OF_NOTICE:
         return FIRST_NOTICE + refused.place
     return LINES.get(refused.number, refused.place)
 
@@ -133,7 +137,7 @@ def check_refusal(text, refused, page):
     if number:
         check_holds(page[1], [f"line {number}: "])
         check_quoted(text.split(b"\n"), number, page)
-    if refused.number in range(10, 19):
+    if refused.number in OF_NOTICE:
         told = said(text)
         notice = hours_said(told.winter, *told.notices[refused.place])
         check_holds(page[1], [f"the notice of {notice}, "])

@@ -68,6 +68,25 @@ MISTAKES = (
         " is it a day of a month?",
     ),
     (
+        "start and end swapped",
+        changed(b"event=38,6,9", b"event=38,9,6"),
+        "line 4: the notice of Wednesday, 9 December 2026, 9:00 to 6:00, does not end after it"
+        " starts; are the two swapped?",
+    ),
+    (
+        "hours counted from noon",
+        changed(b"event=38,6,9", b"event=38,4,6"),
+        "line 4: the notice of Wednesday, 9 December 2026, 4:00 to 6:00, has no hour in a band,"
+        " 6:00 to 10:00 or 16:00 to 20:00; hours are counted to 24, and 5:00 in the afternoon"
+        " is 17",
+    ),
+    (
+        "a mistyped start",
+        changed(b"event=38,6,9", b"event=38,1,9"),
+        "line 4: the notice of Wednesday, 9 December 2026, 1:00 to 9:00, has hours in a band,"
+        " 6:00 to 10:00 or 16:00 to 20:00, but not all in one; is its start or its end mistyped?",
+    ),
+    (
         "decimal commas in readings, refused",
         changed(b"31,1,2000,2000,2000", b"31,1,2000,5,2000,5,2000,5"),
         "line 7: the readings of Wednesday, 2 December 2026 from 6:00 on begin before those of the"
@@ -171,11 +190,12 @@ def check_answered(text):
 
 
 def check_damaged():
-    """Many texts, damaged; all that such texts can get turned up."""
+    """Many texts, damaged; all that such texts can get turned up. Not those that the long ones get,
+    nor the two that ask for another notice, or for both hours of one changed: 16 and 26."""
     source, turned_up = random.Random(SEED), set()
     for _ in range(DAMAGED):
         turned_up |= check_answered(damaged(source, source.choice((SAMPLE, JANUARY))))
-    left = {*numbers.TEXT["text"], *numbers.TEXT["line"]} - turned_up - {4, 16, 18, 32}
+    left = {*numbers.TEXT["text"], *numbers.TEXT["line"]} - turned_up - {4, 16, 18, 26, 32}
     if left:
         raise Failure(f"never given: {sorted(left)}")
 

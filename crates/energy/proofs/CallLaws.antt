@@ -19,8 +19,11 @@ use Rattle.calendar.specs.declared.answers.Winter.{Winter}
 use Rattle.dates.specs.Winters.{days}
 use Rattle.laws.proofs.Tables.{NoneBroken, unrefused-none, none-accepted}
 use Rattle.laws.specs.Table.{refusalAt, firstOf}
-use Rattle.notices.proofs.HourLaws.{hours-iff}
+use Rattle.notices.proofs.HourLaws.{hours-iff, hours-kept}
+use Rattle.notices.specs.HoursVerdict.{faultNumber}
 use Rattle.notices.specs.Profiles.{figuresOf}
+use Rattle.notices.specs.declared.hours.HoursFault.the-variants.{NoHours, NoBand, AcrossBand}
+use Rattle.notices.specs.declared.hours.HoursFault.{HoursFault}
 use Rattle.notices.specs.declared.notices.Notice.{Notice}
 use Rattle.notices.specs.declared.profiles.Profile.the-variants.{Credit}
 use Rattle.schedule.proofs.Lawful.{Sound}
@@ -50,6 +53,12 @@ module _ (w : Winter) (book masks : List ℕ) (n : Notice) where
   unfolding eventAnswer
   call-refused e = rw (← e)
 
+  pub call-hours : (fault : HoursFault) → refusalAt (faultNumber fault) 0 ≡ firstOf (eventRows w (length book) n)
+      → told (faultNumber fault) (settled 0) ≡ eventAnswer w book masks n
+  call-hours NoHours e = call-refused e
+  call-hours NoBand e = call-refused e
+  call-hours AcrossBand e = call-refused e
+
   pub call-settled : {e : Event} → NoneBroken (eventRows w (length book) n) → e ≡ line → told 0 e ≡ eventAnswer w book masks n
   unfolding eventAnswer
   call-settled none q = rw (none-accepted (eventRows w (length book) n) none, q)
@@ -58,14 +67,17 @@ module _ (w : Winter) (book masks : List ℕ) (n : Notice) where
   unfolding eventAnswer eventRows
   none-broken e =
       let zero-is = sym (number-kept (firstOf (eventRows w (length book) n) .number) line) ∙ e in
-      unrefused-none (eventRows w (length book) n) (omega arith, (omega arith, (omega arith, (omega arith, tt)))) (rw (eq-eqb _ 0 zero-is))
+      unrefused-none (eventRows w (length book) n) (omega arith) (rw (eq-eqb _ 0 zero-is))
 
   pub call-taken : eventAnswer w book masks n .number ≡ 0 → Taken w (length book) n
   unfolding eventRows
   call-taken e =
       let none = none-broken e in
       let day = in-book w (n .day) (not-false _ (none .1 .1 .0)) in
-      record { there = part-there w (length book) (n .day) (none .0) (none .1 .0) day; spans = in-band _ n refl (none .1 .1 .1 .0) }
+      record {
+        there = part-there w (length book) (n .day) (none .0) (none .1 .0) day;
+        spans = in-band _ n refl (hours-kept (figuresOf Credit) n 0 .0 (none .1 .1 .1));
+      }
 
 -- an event of a list that stands is given its line
 pub event-given : (y : ℕ) (book masks : List ℕ) (n : Notice) → length book ≡ bookLength (days y) → Sound y (figuresOf Credit) n
@@ -75,5 +87,5 @@ event-given y book masks n b s =
     let w = winterOf y in
     let day : not (inPeriod w (n .day)) ≡ false = rw (period-day y (n .day) .1 (s .period)) in
     let long : wrongLength (w .days) (length book) ≡ false = length-right (w .days) (length book) (omega (arith, facts-days y)) in
-    let hours = hours-iff (figuresOf Credit) n .1 (s .some-hour, s .band) in
-    sym (call-settled w book masks n (facts-right y, (long, (day, (hours, tt)))) refl)
+    let hours = hours-kept (figuresOf Credit) n 0 .1 (hours-iff (figuresOf Credit) n .1 (s .some-hour, s .band)) in
+    sym (call-settled w book masks n (facts-right y, (long, (day, hours))) refl)

@@ -1,5 +1,5 @@
 -- The hours of an event as the code holds them are those of rules 5.1, 5.2 and 5.3: three warm-up hours before a morning event, two before an
--- evening event, and then the event's own. They come from refusal 13, and lie in the day.
+-- evening event, and then the event's own. The event's lie in a band where it is not refused, and all lie in the day.
 -- Assumes nothing.
 use Prim.Native.Nat.{ℕ, _-_, _*_, _%_, _≤_, _<_}
 use mathlib.Core.Bool.{Bool, true, false, cond}
@@ -29,7 +29,7 @@ use Rattle.energy.specs.Asked.{warmUp}
 use Rattle.energy.specs.HoursOf.{Spans, HoursFor, HoursIn, warmRun, eventRun}
 use Rattle.energy.specs.declared.hours.Hours.{Hours}
 
--- hours that 13 does not refuse under the winter credit lie in a band (rule 4.12)
+-- hours that are not refused under the winter credit lie in a band (rules 4.12 and 4.28)
 pub in-band : (f : Figures) (n : Notice) → f ≡ figuresOf Credit → badHours f n ≡ false → Spans (n .start) (n .end)
 in-band f n is e =
     let rule = hours-iff credit n .0 (rw (← credit-figures, ← is) e) in

@@ -2,7 +2,7 @@
 -- Assumes nothing.
 use Prim.Native.Nat.{ℕ, zero, suc}
 use mathlib.Core.Bool.{not, cond}
-use mathlib.Core.List.{List, [], _∷_}
+use mathlib.Core.List.{List, _∷_}
 use lib.Dec.{ltb}
 use lib.ListN.{length}
 use Rattle.book.specs.Length.{wrongLength}
@@ -12,7 +12,7 @@ use Rattle.book.specs.declared.values.Fault.the-variants.{Clean, Missing, TooLa
 use Rattle.calendar.specs.Days.{wrongWinter, inPeriod}
 use Rattle.calendar.specs.declared.answers.Winter.{Winter}
 use Rattle.laws.specs.Table.{Row, row, firstOf}
-use Rattle.notices.specs.Hours.{badHours}
+use Rattle.notices.specs.HoursVerdict.{hourRows, faultNumber}
 use Rattle.notices.specs.Profiles.{figuresOf}
 use Rattle.notices.specs.declared.notices.Notice.{Notice}
 use Rattle.notices.specs.declared.profiles.Profile.the-variants.{Credit}
@@ -55,7 +55,7 @@ linePaper (LineCase.Is event) = told 0 event
 linePaper LineCase.NoWinter = told 1 (settled 0)
 linePaper LineCase.BadBook = told 2 (settled 0)
 linePaper LineCase.OutsidePeriod = told 10 (settled 0)
-linePaper LineCase.BadHours = told 13 (settled 0)
+linePaper (LineCase.BadHours fault) = told (faultNumber fault) (settled 0)
 
 -- rule 4.24: what refuses the call on one event, by how many readings the book has
 unfoldable pub eventRows : Winter → ℕ → Notice → List Row
@@ -63,8 +63,7 @@ eventRows w readings n =
     row 1 0 (wrongWinter w)
     ∷ row 2 0 (wrongLength (w .days) readings)
     ∷ row 10 0 (not (inPeriod w (n .day)))
-    ∷ row 13 0 (badHours (figuresOf Credit) n)
-    ∷ []
+    ∷ hourRows (figuresOf Credit) n 0
 
 -- an event, where a number refuses nothing
 abbrev pub unlessRefused : ℕ → Event → EventAnswer

@@ -7,6 +7,8 @@ use crate::lines::line_in;
 use calendar::DayKind;
 use calendar::Kind;
 use calendar::Winter;
+use notices::HoursFault;
+use notices::HoursVerdict;
 use notices::Notice;
 use notices::Profile;
 
@@ -16,7 +18,7 @@ pub enum Line {
     NoWinter,
     BadBook,
     OutsidePeriod,
-    BadHours,
+    BadHours(HoursFault),
 }
 
 // Settles an event whose day is a book day of that kind.
@@ -30,10 +32,10 @@ fn settle_on(w: Winter, kind: Kind, book: &[u32], masks: &[u32; 152], n: Notice)
     if !kind.period {
         return Line::OutsidePeriod;
     }
-    if notices::bad_hours(Profile::Credit.figures(), n) {
-        return Line::BadHours;
+    match notices::hours_verdict(Profile::Credit.figures(), n) {
+        HoursVerdict::InBand => Line::Is(line_in(w, book, masks, n)),
+        HoursVerdict::Wrong(fault) => Line::BadHours(fault),
     }
-    Line::Is(line_in(w, book, masks, n))
 }
 
 // Settles one event of a winter, by the book and the masks of all events: code, place and energy. A wrong winter, book length, day or

@@ -27,6 +27,7 @@ use Rattle.form.specs.Form.{topOf, restOf, formOf, noticesSaid, readsFrom, read
 use Rattle.form.specs.Lines.{eventLineAt, headAt, readLineAt, linesEnd, linesSaid}
 use Rattle.form.specs.Places.{bookDays, misplacedBy, misplacedIn, bookIn}
 use Rattle.laws.specs.Answer.{refuse}
+use Rattle.laws.specs.Below.{someBelow}
 use Rattle.laws.specs.Rows.{rowsTo}
 use Rattle.laws.specs.Table.{firstOf}
 use Rattle.credit.specs.Lines.{lineAt}
@@ -37,7 +38,7 @@ use Rattle.settlement.specs.Events.{eventAt}
 use Rattle.credit.specs.Refusals.{badBook, shortOutput, callRows, settlementTable, refusalOf}
 use Rattle.credit.specs.Settlement.{settledBy, writtenBy, settlement, written}
 use Rattle.money.specs.Worth.{roundedWorth}
-use Rattle.notices.specs.Hours.{outside, badHours, badLength}
+use Rattle.notices.specs.Hours.{isHour, touches, outside, noHours, noBand, acrossBand, badLength}
 use Rattle.notices.specs.Notices.{noticeAt, hoursOf}
 use Rattle.notices.specs.Profiles.{figuresOf, named}
 use Rattle.numerals.specs.Decimal.{isDigit, digitsIn, decimal}
@@ -45,7 +46,7 @@ use Rattle.numerals.specs.Fields.{endFrom, digitsFrom, fieldFrom, fieldAt, word
 use Rattle.numerals.specs.Lines.{fieldBytes, lineBytes, bytesOfLines}
 use Rattle.numerals.specs.Rows.{rowAt}
 use Rattle.printing.specs.Sheet.{refusedLines, noticeLine, statementLines}
-use Rattle.schedule.specs.ListCheck.{ownRows, listRows, noticeRows, afterNotice, sofarAt, rowsAt, badList, checkTable, checkAnswer}
+use Rattle.schedule.specs.ListCheck.{dayRows, listRows, noticeRows, afterNotice, sofarAt, rowsAt, badList, checkTable, checkAnswer}
 use Rattle.schedule.specs.Rules.{outsidePeriod, onExcludedDay, barredWeekend, startsBefore, sameBand, overLimit}
 use Rattle.text.specs.Refusals.{valueRows, textTable, textRefusal}
 use Rattle.text.specs.Statement.{settledBytes, toldBytes, statementOf}
@@ -61,8 +62,9 @@ use Rattle.figures.specs.TextFigures.{bytesIn, sampleInput, sampleOutput
 
 pub figures-hold : map (λ (f : Figure). f .paper) figures ≡ map (λ (f : Figure). f .computed) figures
 unfolding calendarFigures alsoExcluded alsoFrom easterSunday refuse noEasterYear easterT easterInBook among goodFriday easterMonday excluded leap days winterOf
-    wrongWinter noDay scheduleFigures mornings hundredHours checkAnswer checkTable badList rowsAt noticeRows ownRows listRows firstOf sofarAt afterNotice
-    noticeAt hoursOf named figuresOf outsidePeriod onExcludedDay barredWeekend outside badHours badLength startsBefore sameBand overLimit noWinter
+    wrongWinter noDay scheduleFigures mornings hundredHours checkAnswer checkTable badList rowsAt noticeRows dayRows listRows firstOf sofarAt afterNotice
+    noticeAt hoursOf named figuresOf outsidePeriod onExcludedDay barredWeekend isHour someBelow touches outside noHours noBand
+    acrossBand badLength startsBefore sameBand overLimit noWinter
     inPeriod firstWeekday weekday weekend energyFigures sampleDay sampleBook sampleList eventAnswer eventRows lineOf askedBy warmUp hoursFrom needed placesOn
     firstFault faultOf energyOf sumOver trimmedAt trimmedOf sumOf smallestOf largestOf sparedOf aboveLimit trialOf referenceDays before freeIn serves
     masksOf masksTo withHours marksNone hoursMask moneyFigures settlement settledBy written writtenBy refusalOf settlementTable callRows badBook badPrice

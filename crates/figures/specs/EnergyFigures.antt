@@ -6,6 +6,7 @@ use lib.ListN.{replicate}
 use Rattle.book.specs.Values.{missingMark}
 use Rattle.calendar.specs.WinterOf.{winterOf}
 use Rattle.references.specs.ReferenceDays.{freeIn, referenceDays}
+use Rattle.energy.specs.Line.{eventAnswer}
 use Rattle.energy.specs.Spared.{sparedOf}
 use Rattle.event_hours.specs.Days.{masksOf}
 use Rattle.laws.specs.Answer.{Answer, given}
@@ -37,10 +38,16 @@ sampleBook =
 unfoldable pub sampleList : List ℕ
 sampleList = 38 ∷ 6 ∷ 9 ∷ []
 
+-- the number that the call on one event gives for these hours of day 38, with the sample's book
+abbrev pub calledWith : ℕ → ℕ → ℕ
+calledWith s e = eventAnswer (winterOf 2026) sampleBook (masksOf []) (record { day = 38; start = s; end = e }) .number
+
 unfoldable pub energyFigures : List Figure
 energyFigures =
+    -- rule 4.24: 9-6, 20-30 and 19-30
+    figure (given (13 ∷ 26 ∷ 27 ∷ [])) (given (calledWith 9 6 ∷ calledWith 20 30 ∷ calledWith 19 30 ∷ []))
     -- rule 5.6: an event on day 34
-    figure (given (28 ∷ 27 ∷ 21 ∷ 20 ∷ 14 ∷ [])) (references (34 ∷ 6 ∷ 9 ∷ []) 34)
+    ∷ figure (given (28 ∷ 27 ∷ 21 ∷ 20 ∷ 14 ∷ [])) (references (34 ∷ 6 ∷ 9 ∷ []) 34)
     -- rule 5.6: one on day 57, by itself and with another on day 51
     ∷ figure (given (52 ∷ 51 ∷ 50 ∷ 47 ∷ 46 ∷ [])) (references (57 ∷ 6 ∷ 9 ∷ []) 57)
     ∷ figure (given (52 ∷ 50 ∷ 47 ∷ 46 ∷ 45 ∷ [])) (references (51 ∷ 6 ∷ 9 ∷ 57 ∷ 6 ∷ 9 ∷ []) 57)

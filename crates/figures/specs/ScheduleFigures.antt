@@ -24,14 +24,24 @@ hundredHours = mornings 30 23 ++ mornings 56 2
 
 unfoldable pub scheduleFigures : List Figure
 scheduleFigures =
-    -- profile 1, by rules 4.12, 4.14 and 4.15
+    -- profile 1, the hours by rules 4.12, 4.27 and 4.28
     figure accepted (checked 1 (38 ∷ 6 ∷ 10 ∷ []))
-    ∷ figure (refusalAt 13 0) (checked 1 (38 ∷ 6 ∷ 11 ∷ []))
+    ∷ figure (refusalAt 27 0) (checked 1 (38 ∷ 6 ∷ 11 ∷ []))
+    ∷ figure (refusalAt 27 0) (checked 1 (38 ∷ 9 ∷ 17 ∷ []))
+    ∷ figure (refusalAt 13 0) (checked 1 (38 ∷ 9 ∷ 6 ∷ []))
+    ∷ figure (refusalAt 26 0) (checked 1 (38 ∷ 10 ∷ 16 ∷ []))
+    -- and an end past 24, by the hours that it names
+    ∷ figure (refusalAt 26 0) (checked 1 (38 ∷ 20 ∷ 30 ∷ []))
+    ∷ figure (refusalAt 27 0) (checked 1 (38 ∷ 19 ∷ 30 ∷ []))
+    ∷ figure (refusalAt 13 0) (checked 1 (38 ∷ 24 ∷ 24 ∷ []))
+    ∷ figure (refusalAt 26 0) (checked 1 (38 ∷ 24 ∷ 25 ∷ []))
+    ∷ figure (refusalAt 27 0) (checked 1 (38 ∷ 0 ∷ 4294967295 ∷ []))
+    -- two notices, by rules 4.14 and 4.15
     ∷ figure (refusalAt 15 1) (checked 1 (38 ∷ 6 ∷ 10 ∷ 38 ∷ 6 ∷ 10 ∷ []))
     ∷ figure (refusalAt 16 1) (checked 1 (38 ∷ 6 ∷ 7 ∷ 38 ∷ 8 ∷ 9 ∷ []))
-    -- profile 2, by rules 4.12 and 4.13
+    -- profile 2, by rules 4.13 and 4.27
     ∷ figure (refusalAt 14 0) (checked 2 (38 ∷ 6 ∷ 8 ∷ []))
-    ∷ figure (refusalAt 13 0) (checked 2 (38 ∷ 9 ∷ 10 ∷ []))
+    ∷ figure (refusalAt 26 0) (checked 2 (38 ∷ 9 ∷ 10 ∷ []))
     -- no notices, then as many hours as a winter has, then one more: rules 4.1 and 4.16
     ∷ figure accepted (checked 1 [])
     ∷ figure accepted (checked 1 hundredHours)

@@ -19,6 +19,12 @@ neither a b e = or-eq-false-eq-eq-false-and-eq-false a b .0 e
 pub no-fault : (a b : Bool) → a ≡ false → b ≡ false → (a || b) ≡ false
 no-fault a b p q = or-eq-false-eq-eq-false-and-eq-false a b .1 (p, q)
 
+-- a test that passes exactly where another does
+pub same-test : (a b : Bool) → (a ≡ true → b ≡ true) → (b ≡ true → a ≡ true) → a ≡ b
+same-test true b to from = sym (to refl)
+same-test false true to from = from refl
+same-test false false to from = refl
+
 -- two tests that came out alike
 pub same-bits : (a b : Bool) → (Bool·beq a b ≡ true) ↔ (a ≡ b)
 same-bits true true = (λ e. refl, λ e. refl)

@@ -6,6 +6,7 @@ pub mod ReadBack
 pub mod Refusals
 pub mod RowLaws
 pub mod Same
+pub mod SomeBelow
 pub mod Stores
 pub mod SumLaws
 pub mod Tables

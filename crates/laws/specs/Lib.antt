@@ -1,4 +1,5 @@
 pub mod Answer
+pub mod Below
 pub mod Bounds
 pub mod Rows
 pub mod Sums

@@ -1,20 +1,25 @@
--- The numbers 13 and 14 as propositions, each the same as its test, and what the length test lets through. One law is of the code: the length
--- test on a callee's result.
+-- The rules of hours as propositions, each the same as its test: inside one band, by the ends and hour by hour; 13, 26 and 27, of which one is given
+-- exactly where the test of all three finds a fault; the length, and what its test lets through. One law is of the code: the length test on a
+-- callee's result.
 -- Assumes nothing.
 use Prim.Native.Nat.{ℕ, _-_, _≤_, _<_}
 use mathlib.Core.Bool.{Bool, true, false, _&&_, _||_, true≢false}
 use mathlib.Core.Logic.{_⊎_, inl, inr, ⊎-elim, _↔_}
 use mathlib.Core.Path.{_≡_, refl}
+use mathlib.Mathlib.Data.Bool.Basic.{or-inr}
 use native.Mathlib.Omega.{arith}
 use lib.Dec.{leb, ltb}
 use borrow.Author.Tests.{ltb-false, leb-false, le-ltb, lt-leb}
 use Rattle.laws.proofs.Guards.{neither, no-fault}
-use Rattle.notices.specs.Hours.{outside, badHours, badLength}
+use Rattle.laws.proofs.Tables.{NoneBroken}
+use Rattle.notices.specs.Hours.{touches, outside, noHours, noBand, acrossBand, badHours, badLength}
+use Rattle.notices.specs.HoursVerdict.{hourRows}
 use Rattle.notices.specs.Notices.{hoursOf}
 use Rattle.notices.specs.Sane.{Sane}
 use Rattle.notices.specs.declared.notices.Notice.{Notice}
 use Rattle.notices.specs.declared.profiles.Band.{Band}
 use Rattle.notices.specs.declared.profiles.Figures.{Figures}
+use Rattle.notices.proofs.Touching.{HourOf, touches-iff}
 
 -- the hours lie inside a band
 
@@ -28,6 +33,16 @@ inside-iff b n = (
   λ h. let p = neither (ltb (n .start) (b .start)) (ltb (b .end) (n .end)) h in
       record { from = ltb-false (n .start) (b .start) (p .0); to = ltb-false (b .end) (n .end) (p .1) },
   λ i. no-fault (ltb (n .start) (b .start)) (ltb (b .end) (n .end)) (le-ltb (n .start) (b .start) (i .from)) (le-ltb (b .end) (n .end) (i .to)),
+)
+
+-- of a notice that has hours, said of these: each is an hour of the band
+pub inside-hours : (b : Band) (n : Notice) → n .start < n .end
+    → (outside b n ≡ false) ↔ ((h : ℕ) → HourOf (n .start) (n .end) h → HourOf (b .start) (b .end) h)
+inside-hours b n some = (
+  λ e h of. let i = inside-iff b n .0 e in (omega (arith, i .from, of .0), omega (arith, i .to, of .1)),
+  λ each. let first = each (n .start) (omega arith, some) in
+      let last = each (n .end - 1) (omega (arith, some), omega (arith, some)) in
+      inside-iff b n .1 (record { from = first .0; to = omega (arith, some, last .1) }),
 )
 
 -- inside the morning band, or inside the evening band
@@ -59,6 +74,31 @@ module _ (f : Figures) (n : Notice) where
         (leb-false (n .end) (n .start) (p .0), in-band-iff .0 (p .1)),
     λ r. no-fault (leb (n .end) (n .start)) (outside (f .morning) n && outside (f .evening) n) (lt-leb (n .end) (n .start) (r .0)) (in-band-iff .1 (r .1)),
   )
+
+  -- one of 13, 26 and 27 is given exactly where the test of all three finds a fault
+
+  inside-touches : (b : Band) → n .start < n .end → Inside b n → touches b n ≡ true
+  inside-touches b some i = touches-iff b n .1 (record { hour = n .start; of-notice = (omega arith, some); of-band = (i .from, omega (arith, some, i .to)) })
+
+  in-some-band : badHours f n ≡ false → noBand f n ≡ false
+  unfolding noBand
+  in-some-band e =
+      let rule = hours-iff .0 e in
+      ⊎-elim (λ (i : Inside (f .morning) n). rw (inside-touches (f .morning) (rule .0) i))
+      (λ (i : Inside (f .evening) n). rw (or-inr (touches (f .morning) n) (touches (f .evening) n) (inside-touches (f .evening) (rule .0) i)))
+      (rule .1)
+
+  pub hours-kept : (k : ℕ) → NoneBroken (hourRows f n k) ↔ (badHours f n ≡ false)
+  unfolding noHours acrossBand badHours
+  hours-kept k = (
+    λ t. no-fault (leb (n .end) (n .start)) (outside (f .morning) n && outside (f .evening) n) (t .0) (t .1 .1 .0),
+    λ e. let p = neither (leb (n .end) (n .start)) (outside (f .morning) n && outside (f .evening) n) e in (p .0, (in-some-band e, (p .1, tt))),
+  )
+
+  -- hours that are bad, but not for want of any, are not inside one band
+  pub across-band : badHours f n ≡ true → noHours n ≡ false → acrossBand f n ≡ true
+  unfolding badHours noHours acrossBand
+  across-band e some = rw some at e
 
   -- the length
 

@@ -1,3 +1,5 @@
 pub mod HourLaws
+pub mod HoursTold
 pub mod NoticeLaws
 pub mod ProfileLaws
+pub mod Touching

@@ -1,4 +1,5 @@
 pub mod Profiles
 pub mod Notices
 pub mod Hours
+pub mod HoursVerdict
 pub mod Sane

@@ -3,8 +3,11 @@ mod hours;
 mod notices;
 mod profiles;
 
-pub use hours::bad_hours;
+pub use hours::HoursFault;
+pub use hours::HoursVerdict;
 pub use hours::bad_length;
+pub use hours::fault_number;
+pub use hours::hours_verdict;
 pub use notices::LONGEST_LIST;
 pub use notices::MOST_NOTICES;
 pub use notices::NOTICE_NUMBERS;

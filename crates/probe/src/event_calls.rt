@@ -8,14 +8,14 @@ use calendar::Known;
 use energy::Line;
 use notices::Notice;
 
-// Refusals 1, 2, 10 and 13.
-const NO_WINTER: u64 = 4294967296;
+// What a refusal number is worth, and refusals 1, 2 and 10.
+const REFUSAL: u64 = 4294967296;
 
-const BAD_BOOK: u64 = 2 * 4294967296;
+const NO_WINTER: u64 = REFUSAL;
 
-const OUTSIDE_PERIOD: u64 = 10 * 4294967296;
+const BAD_BOOK: u64 = 2 * REFUSAL;
 
-const BAD_HOURS: u64 = 13 * 4294967296;
+const OUTSIDE_PERIOD: u64 = 10 * REFUSAL;
 
 // The code and place of a line, or its refusal.
 fn fault_of(line: Line) -> u64
@@ -26,7 +26,7 @@ fn fault_of(line: Line) -> u64
         Line::NoWinter => NO_WINTER,
         Line::BadBook => BAD_BOOK,
         Line::OutsidePeriod => OUTSIDE_PERIOD,
-        Line::BadHours => BAD_HOURS,
+        Line::BadHours(fault) => notices::fault_number(fault) as u64 * REFUSAL,
     }
 }
 
@@ -39,7 +39,7 @@ fn energy_of(line: Line) -> u64
         Line::NoWinter => 0,
         Line::BadBook => 0,
         Line::OutsidePeriod => 0,
-        Line::BadHours => 0,
+        Line::BadHours(_) => 0,
     }
 }
 

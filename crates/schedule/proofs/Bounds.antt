@@ -15,14 +15,14 @@ use Rattle.laws.specs.Table.{Row, row, firstOf}
 use Rattle.notices.specs.Notices.{countOf}
 use Rattle.notices.specs.Profiles.{named}
 use Rattle.notices.specs.declared.profiles.Figures.{Figures}
-use Rattle.schedule.specs.ListCheck.{ownRows, listRows, noticeRows, rowsAt, noticesTable, badList, noProfile, namedFigures, checkTable, checkAnswer}
+use Rattle.schedule.specs.ListCheck.{dayRows, listRows, noticeRows, rowsAt, noticesTable, badList, noProfile, namedFigures, checkTable, checkAnswer}
 use Rattle.schedule.specs.Verdicts.{numberOf, placeOf, verdictPaper}
 use Rattle.schedule.specs.declared.verdicts.Verdict.{Verdict}
 use Rattle.schedule.proofs.Walk.{list-fits}
 
 module _ (w : ℕ) (f : Figures) (l : List ℕ) where
   row-bounded : (k : ℕ) → k ≤ largestPlace → RowsBounded (rowsAt (winterOf w) f l k)
-  unfolding rowsAt noticeRows ownRows listRows
+  unfolding rowsAt noticeRows dayRows listRows
   row-bounded k h = omega arith
 
   pub notices-bounded : badList (length l) ≡ false → Bounded (firstOf (noticesTable (winterOf w) f l))

@@ -1,5 +1,5 @@
 -- Demand 2: a list is accepted exactly when it keeps every rule of its profile. The rules as propositions, each the same as its test:
--- a notice by itself (10 to 14), a notice against the one before it (15, 16), and the hours of the winter together (18).
+-- a notice by itself (10 to 14, 26, 27), a notice against the one before it (15, 16), and the hours of the winter together (18).
 -- Assumes nothing.
 use Prim.Native.Nat.{ℕ, _+_, _-_, _≤_, _<_}
 use mathlib.Core.Bool.{Bool, true, false, not, Bool·beq, _&&_, _||_, false≢true}
@@ -25,7 +25,7 @@ use Rattle.schedule.specs.declared.rules.Sofar.{Sofar}
 
 -- the rules
 
--- 10 to 14: a notice by itself
+-- 10 to 14, 26, 27: a notice by itself
 pub record Sound (w : ℕ) (f : Figures) (n : Notice) : Type 0 where
   pub period : (30 ≤ n .day) × (n .day < days w)
   pub open-day : excluded (winterOf w) (n .day) ≡ false

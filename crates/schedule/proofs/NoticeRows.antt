@@ -1,32 +1,41 @@
--- Laws of a notice's rows: it is accepted exactly when none is broken, what one that is not refused has passed, that its hours fit, and its own
--- rules before those of the list.
+-- Laws of a notice's rows: it is accepted exactly when none is broken, what one that is not refused has passed, that its hours fit, and its day's
+-- rules before the others.
 -- Assumes nothing.
 use Prim.Native.Nat.{ℕ, _+_, _≤_}
 use mathlib.Core.Bool.{true, false}
+use mathlib.Core.List.{List, _∷_, _++_}
 use mathlib.Core.Path.{_≡_, ap, sym, _∙_}
 use native.Mathlib.Omega.{arith}
 use borrow.Author.Tests.{ltb-false}
 use Rattle.calendar.specs.declared.answers.Winter.{Winter}
+use Rattle.laws.proofs.Every.{left, right, joined}
 use Rattle.laws.proofs.Tables.{Numbered, NoneBroken, unrefused-none, part-stops, part-goes}
 use Rattle.laws.specs.Answer.{Answer}
-use Rattle.laws.specs.Table.{firstOf, isRefusal}
-use Rattle.notices.proofs.HourLaws.{hours-fit}
+use Rattle.laws.specs.Table.{Row, row, firstOf, isRefusal}
+use Rattle.notices.proofs.HourLaws.{hours-kept}
 use Rattle.notices.specs.Hours.{badHours, badLength}
+use Rattle.notices.specs.HoursVerdict.{hourRows}
 use Rattle.notices.specs.Notices.{hoursOf}
 use Rattle.notices.specs.Sane.{mostHours, Sane}
 use Rattle.notices.specs.declared.notices.Notice.{Notice}
 use Rattle.notices.specs.declared.profiles.Figures.{Figures}
-use Rattle.schedule.specs.ListCheck.{ownRows, listRows, noticeRows}
+use Rattle.schedule.specs.ListCheck.{dayRows, listRows, noticeRows}
 use Rattle.schedule.specs.Rules.{outsidePeriod, onExcludedDay, barredWeekend, startsBefore, sameBand, overLimit}
-use Rattle.schedule.specs.Walkable.{HoursFit}
 use Rattle.schedule.specs.declared.rules.Sofar.{Sofar}
 
-own-numbered : (w : Winter) (f : Figures) (n : Notice) (k : ℕ) → Numbered (ownRows w f n k)
-unfolding ownRows
-own-numbered w f n k = omega arith
+abbrev Kept : Row → Type 0
+Kept r = r .broken ≡ false
+
+-- the rows of a notice from its length on
+abbrev lengthOn : Figures → Sofar → Notice → ℕ → List Row
+lengthOn f so n k = row 14 k (badLength f n) ∷ listRows f so n k
+
+day-numbered : (w : Winter) (f : Figures) (n : Notice) (k : ℕ) → Numbered (dayRows w f n k)
+unfolding dayRows
+day-numbered w f n k = omega arith
 
 pub notice-numbered : (w : Winter) (f : Figures) (so : Sofar) (n : Notice) (k : ℕ) → Numbered (noticeRows w f so n k)
-unfolding noticeRows ownRows listRows
+unfolding noticeRows dayRows listRows
 notice-numbered w f so n k = omega arith
 
 -- the rules that a notice has passed, by name
@@ -42,23 +51,26 @@ pub record Passed (w : Winter) (f : Figures) (so : Sofar) (n : Notice) : Type 0 
 
 module _ (w : Winter) (f : Figures) (so : Sofar) (n : Notice) where
   pub none-passed : (k : ℕ) → NoneBroken (noticeRows w f so n k) → Passed w f so n
-  unfolding noticeRows ownRows listRows
+  unfolding noticeRows dayRows listRows
   none-passed k t =
+      let hours-on = t .1 .1 .1 in
+      let length-on = right Kept (hourRows f n k) (lengthOn f so n k) hours-on in
       record {
         period = t .0;
         open-day = t .1 .0;
         week = t .1 .1 .0;
-        hours = t .1 .1 .1 .0;
-        long = t .1 .1 .1 .1 .0;
-        order = t .1 .1 .1 .1 .1 .0;
-        apart = t .1 .1 .1 .1 .1 .1 .0;
-        limit = t .1 .1 .1 .1 .1 .1 .1 .0;
+        hours = hours-kept f n k .0 (left Kept (hourRows f n k) (lengthOn f so n k) hours-on);
+        long = length-on .0;
+        order = length-on .1 .0;
+        apart = length-on .1 .1 .0;
+        limit = length-on .1 .1 .1 .0;
       }
 
   pub passed-none : (k : ℕ) → Passed w f so n → NoneBroken (noticeRows w f so n k)
-  unfolding noticeRows ownRows listRows
+  unfolding noticeRows dayRows listRows
   passed-none k t =
-      (t .period, (t .open-day, (t .week, (t .hours, (t .long, (t .order, (t .apart, (t .limit, tt))))))))
+      let hours-on = joined Kept (hourRows f n k) (lengthOn f so n k) (hours-kept f n k .1 (t .hours)) (t .long, (t .order, (t .apart, (t .limit, tt)))) in
+      (t .period, (t .open-day, (t .week, hours-on)))
 
   pub passed : (k : ℕ) → isRefusal (firstOf (noticeRows w f so n k)) ≡ false → Passed w f so n
   passed k e = none-passed k (unrefused-none (noticeRows w f so n k) (notice-numbered w f so n k) e)
@@ -70,21 +82,15 @@ module _ (w : Winter) (f : Figures) (so : Sofar) (n : Notice) (ok : Sane f) (t :
   unfolding overLimit
   sum-fits = omega (arith, ltb-false (f .hours) (so .hours + hoursOf n) (t .limit), ok .hours)
 
--- the two parts of a notice's rules: its own first, and then those of the list
+-- the parts of a notice's rules: its day's first, then those of its hours, then its length and those of the list
 
-module _ (w : Winter) (f : Figures) (so : Sofar) (n : Notice) (k : ℕ) {a : Answer} (own : a ≡ firstOf (ownRows w f n k)) where
-  pub notice-stop : isRefusal a ≡ true → a ≡ firstOf (noticeRows w f so n k)
+module _ (w : Winter) (f : Figures) (so : Sofar) (n : Notice) (k : ℕ) {a : Answer} (day : a ≡ firstOf (dayRows w f n k)) where
+  pub day-stops : isRefusal a ≡ true → a ≡ firstOf (noticeRows w f so n k)
   unfolding noticeRows
-  notice-stop e = own ∙ part-stops (ownRows w f n k) (listRows f so n k) (ap isRefusal (sym own) ∙ e)
+  day-stops e = day ∙ part-stops (dayRows w f n k) (hourRows f n k ++ lengthOn f so n k) (ap isRefusal (sym day) ∙ e)
 
-  own-kept : isRefusal a ≡ false → NoneBroken (ownRows w f n k)
-  own-kept e = unrefused-none (ownRows w f n k) (own-numbered w f n k) (ap isRefusal (sym own) ∙ e)
-
-  -- a notice that has passed its own rules is short
-  pub own-fits : Sane f → so .hours ≤ mostHours → isRefusal a ≡ false → HoursFit so n
-  unfolding ownRows
-  own-fits ok small e = record { sofar = small; notice = hours-fit f n ok (own-kept e .1 .1 .1 .1 .0) }
-
-  pub notice-go : {b : Answer} → isRefusal a ≡ false → b ≡ firstOf (listRows f so n k) → b ≡ firstOf (noticeRows w f so n k)
+  pub day-goes : {b : Answer} → isRefusal a ≡ false → b ≡ firstOf (hourRows f n k ++ lengthOn f so n k) → b ≡ firstOf (noticeRows w f so n k)
   unfolding noticeRows
-  notice-go e q = q ∙ part-goes (ownRows w f n k) (listRows f so n k) (own-kept e)
+  day-goes e q =
+      q ∙ part-goes (dayRows w f n k) (hourRows f n k ++ lengthOn f so n k)
+      (unrefused-none (dayRows w f n k) (day-numbered w f n k) (ap isRefusal (sym day) ∙ e))

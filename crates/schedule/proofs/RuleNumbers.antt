@@ -9,6 +9,7 @@ use lib.ListN.{getD}
 use Rattle.laws.proofs.ReadBack.{read-back}
 use Rattle.laws.specs.Answer.{Answer}
 use Rattle.laws.specs.Table.{isRefusal}
+use Rattle.notices.specs.declared.hours.HoursFault.the-variants.{NoHours, NoBand, AcrossBand}
 use Rattle.schedule.specs.Verdicts.{ruleNumber, verdictPaper}
 use Rattle.schedule.specs.declared.verdicts.Rule.the-variants.{NoWinter, BadList, NoProfile, OutsidePeriod, ExcludedDay, Weekend}
 use Rattle.schedule.specs.declared.verdicts.Rule.the-variants.{BadHours, BadLength, StartsBefore, SameBand, OverLimit}
@@ -23,7 +24,9 @@ refused-is NoProfile place = refl
 refused-is OutsidePeriod place = refl
 refused-is ExcludedDay place = refl
 refused-is Weekend place = refl
-refused-is BadHours place = refl
+refused-is (BadHours NoHours) place = refl
+refused-is (BadHours NoBand) place = refl
+refused-is (BadHours AcrossBand) place = refl
 refused-is BadLength place = refl
 refused-is StartsBefore place = refl
 refused-is SameBand place = refl
@@ -38,11 +41,13 @@ ruleOf n =
     (cond (eqb n 10) OutsidePeriod
     (cond (eqb n 11) ExcludedDay
     (cond (eqb n 12) Weekend
-    (cond (eqb n 13) BadHours
+    (cond (eqb n 13) (BadHours NoHours)
+    (cond (eqb n 26) (BadHours NoBand)
+    (cond (eqb n 27) (BadHours AcrossBand)
     (cond (eqb n 14) BadLength
     (cond (eqb n 15) StartsBefore
     (cond (eqb n 16) SameBand
-    OverLimit)))))))))
+    OverLimit)))))))))))
 
 rule-back : (rule : Rule) → ruleOf (ruleNumber rule) ≡ rule
 unfolding ruleOf
@@ -52,7 +57,9 @@ rule-back NoProfile = refl
 rule-back OutsidePeriod = refl
 rule-back ExcludedDay = refl
 rule-back Weekend = refl
-rule-back BadHours = refl
+rule-back (BadHours NoHours) = refl
+rule-back (BadHours NoBand) = refl
+rule-back (BadHours AcrossBand) = refl
 rule-back BadLength = refl
 rule-back StartsBefore = refl
 rule-back SameBand = refl

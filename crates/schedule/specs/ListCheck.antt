@@ -12,7 +12,8 @@ use Rattle.dates.specs.Winters.{noWinter}
 use Rattle.laws.specs.Answer.{Answer}
 use Rattle.laws.specs.Rows.{rowsTo}
 use Rattle.laws.specs.Table.{Row, row, firstOf}
-use Rattle.notices.specs.Hours.{badHours, badLength}
+use Rattle.notices.specs.Hours.{badLength}
+use Rattle.notices.specs.HoursVerdict.{hourRows}
 use Rattle.notices.specs.Notices.{noticeNumbers, longestList, countOf, noNotice, noticeAt, hoursOf}
 use Rattle.notices.specs.Profiles.{figuresOf, named}
 use Rattle.notices.specs.declared.notices.Notice.{Notice}
@@ -24,14 +25,12 @@ use Rattle.notices.specs.declared.profiles.Profile.{Profile}
 use Rattle.schedule.specs.Rules.{outsidePeriod, onExcludedDay, barredWeekend, startsBefore, sameBand, overLimit}
 use Rattle.schedule.specs.declared.rules.Sofar.{Sofar}
 
--- the rules of the notice at index k by itself
-unfoldable pub ownRows : Winter → Figures → Notice → ℕ → List Row
-ownRows w f n k =
+-- the rules of the day of the notice at index k
+unfoldable pub dayRows : Winter → Figures → Notice → ℕ → List Row
+dayRows w f n k =
     row 10 k (outsidePeriod w n)
     ∷ row 11 k (onExcludedDay w n)
     ∷ row 12 k (barredWeekend f w n)
-    ∷ row 13 k (badHours f n)
-    ∷ row 14 k (badLength f n)
     ∷ []
 
 -- its rules among the others
@@ -42,9 +41,9 @@ listRows f so n k =
     ∷ row 18 k (overLimit f so n)
     ∷ []
 
--- all its rules, in their order (rule 4.20)
+-- all its rules, in their order (rule 4.20): its day, its hours, its length, and the others
 unfoldable pub noticeRows : Winter → Figures → Sofar → Notice → ℕ → List Row
-noticeRows w f so n k = ownRows w f n k ++ listRows f so n k
+noticeRows w f so n k = dayRows w f n k ++ (hourRows f n k ++ (row 14 k (badLength f n) ∷ listRows f so n k))
 
 -- the last event so far and the hours so far: before the first notice none, and after a notice this one and its hours too (rule 4.20)
 abbrev pub nothingBefore : Sofar

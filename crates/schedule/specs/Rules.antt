@@ -28,7 +28,7 @@ barredWeekend f w n = not (f .weekends) && weekend w (n .day)
 unfoldable pub startsBefore : Notice → Notice → Bool
 startsBefore last n = ltb (n .day) (last .day) || (eqb (n .day) (last .day) && ltb (n .start) (last .end))
 
--- rule 4.15: 16, the day and band of the last event so far. Each lies inside one band by now (13), so that the band is told by whether it
+-- rule 4.15: 16, the day and band of the last event so far. Each lies inside one band by now (27), so that the band is told by whether it
 -- starts before the evening's (rule 3.7)
 unfoldable pub sameBand : Figures → Notice → Notice → Bool
 sameBand f event n = eqb (event .day) (n .day) && Bool·beq (ltb (event .start) (f .evening .start)) (ltb (n .start) (f .evening .start))

@@ -3,6 +3,7 @@
 use Prim.Native.Nat.{ℕ}
 use mathlib.Core.List.{[], _∷_}
 use Rattle.laws.specs.Answer.{Answer}
+use Rattle.notices.specs.HoursVerdict.{faultNumber}
 use Rattle.schedule.specs.declared.verdicts.Rule.the-variants.{NoWinter, BadList, NoProfile, OutsidePeriod, ExcludedDay, Weekend}
 use Rattle.schedule.specs.declared.verdicts.Rule.the-variants.{BadHours, BadLength, StartsBefore, SameBand, OverLimit}
 use Rattle.schedule.specs.declared.verdicts.Rule.{Rule}
@@ -16,7 +17,7 @@ ruleNumber NoProfile = 5
 ruleNumber OutsidePeriod = 10
 ruleNumber ExcludedDay = 11
 ruleNumber Weekend = 12
-ruleNumber BadHours = 13
+ruleNumber (BadHours fault) = faultNumber fault
 ruleNumber BadLength = 14
 ruleNumber StartsBefore = 15
 ruleNumber SameBand = 16

@@ -13,9 +13,9 @@ ghost use Rattle.schedule.specs.Walkable.{Walkable};
 ghost use Rattle.schedule.specs.ListCheck.{rowsAt, checkedIn, checkAnswer};
 use crate::list_check::bad_list;
 use crate::notice_check::after_notice;
+use crate::notice_check::day_verdict;
 use crate::notice_check::nothing_before;
 use crate::notice_check::notice_verdict;
-use crate::notice_check::own_verdict;
 use crate::verdicts::Rule;
 use crate::verdicts::Verdict;
 use crate::verdicts::is_refused;
@@ -51,8 +51,8 @@ fn check_lent_notices(w: Winter, f: Figures, list: &[u8], count: usize) -> Verdi
     let mut k: usize = 0;
     while k < count {
         let n = lent_notice(list, k);
-        let own = own_verdict(w, f, n, k as u32);
-        let verdict = notice_verdict(own, w, f, so, n, k as u32);
+        let day = day_verdict(w, f, n, k as u32);
+        let verdict = notice_verdict(day, w, f, so, n, k as u32);
         if is_refused(verdict) {
             return verdict;
         }

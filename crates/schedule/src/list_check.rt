@@ -8,9 +8,9 @@ ghost use Rattle.schedule.specs.Verdicts.{verdictPaper};
 ghost use Rattle.schedule.specs.Walkable.{Walkable};
 ghost use Rattle.schedule.specs.ListCheck.{rowsAt, badList, checkedIn};
 use crate::notice_check::after_notice;
+use crate::notice_check::day_verdict;
 use crate::notice_check::nothing_before;
 use crate::notice_check::notice_verdict;
-use crate::notice_check::own_verdict;
 use crate::verdicts::Rule;
 use crate::verdicts::Verdict;
 use crate::verdicts::is_refused;
@@ -40,8 +40,8 @@ fn check_notices(w: Winter, f: Figures, list: &[u32], count: usize) -> Verdict
     let mut k: usize = 0;
     while k < count {
         let n = notice_in(list, k);
-        let own = own_verdict(w, f, n, k as u32);
-        let verdict = notice_verdict(own, w, f, so, n, k as u32);
+        let day = day_verdict(w, f, n, k as u32);
+        let verdict = notice_verdict(day, w, f, so, n, k as u32);
         if is_refused(verdict) {
             return verdict;
         }

@@ -5,7 +5,7 @@ ghost use Rattle.calendar.specs.Days.{wrongWinter};
 ghost use Rattle.laws.specs.Table.{firstOf};
 ghost use Rattle.schedule.specs.Verdicts.{verdictPaper};
 ghost use Rattle.schedule.specs.Walkable.{Judgeable, HoursFit};
-ghost use Rattle.schedule.specs.ListCheck.{ownRows, listRows, noticeRows, nothingBefore, afterNotice};
+ghost use Rattle.schedule.specs.ListCheck.{dayRows, listRows, noticeRows, nothingBefore, afterNotice};
 use crate::rules::Sofar;
 use crate::rules::barred_weekend;
 use crate::rules::kind_on;
@@ -17,12 +17,13 @@ use crate::verdicts::Verdict;
 use crate::verdicts::is_refused;
 use calendar::Winter;
 use notices::Figures;
+use notices::HoursVerdict;
 use notices::Notice;
 
-// Numbers 10 to 14 (rule 4.20): the notice at place k by itself.
-pub(crate) fn own_verdict(w: Winter, f: Figures, n: Notice, k: u32) -> Verdict
+// Numbers 10, 11 and 12 (rule 4.20): the day of the notice at place k.
+pub(crate) fn day_verdict(w: Winter, f: Figures, n: Notice, k: u32) -> Verdict
     requires { ⌜ wrongWinter w ≡ false ⌝ }
-    ensures { λ r. ⌜ verdictPaper r ≡ firstOf (ownRows w f n k) ⌝ }
+    ensures { λ r. ⌜ verdictPaper r ≡ firstOf (dayRows w f n k) ⌝ }
 {
     let day = kind_on(w, n);
     if !day.period {
@@ -33,12 +34,6 @@ pub(crate) fn own_verdict(w: Winter, f: Figures, n: Notice, k: u32) -> Verdict
     }
     if barred_weekend(f, w, n) {
         return Verdict::Refused(Rule::Weekend, k);
-    }
-    if notices::bad_hours(f, n) {
-        return Verdict::Refused(Rule::BadHours, k);
-    }
-    if notices::bad_length(f, n) {
-        return Verdict::Refused(Rule::BadLength, k);
     }
     Verdict::Accepted
 }
@@ -61,22 +56,31 @@ fn list_verdict(f: Figures, so: Sofar, n: Notice, k: u32) -> Verdict
     Verdict::Accepted
 }
 
-// All rules of the notice at place k: it goes on from the notice's own verdict. Apart, both are short enough to become part of either walk.
+// All rules of the notice at place k: it goes on from its day's verdict to its hours, its length and its place among the others. Apart, the
+// two are short enough to become part of either walk.
 pub(crate) fn notice_verdict(
-    own: Verdict,
+    day: Verdict,
     w: Winter,
     f: Figures,
     so: Sofar,
     n: Notice,
     k: u32,
 ) -> Verdict
-    requires { ⌜ Judgeable w f so × (verdictPaper own ≡ firstOf (ownRows w f n k)) ⌝ }
+    requires { ⌜ Judgeable w f so × (verdictPaper day ≡ firstOf (dayRows w f n k)) ⌝ }
     ensures { λ r. ⌜ verdictPaper r ≡ firstOf (noticeRows w f so n k) ⌝ }
 {
-    if is_refused(own) {
-        return own;
+    if is_refused(day) {
+        return day;
     }
-    list_verdict(f, so, n, k)
+    match notices::hours_verdict(f, n) {
+        HoursVerdict::InBand => {
+            if notices::bad_length(f, n) {
+                return Verdict::Refused(Rule::BadLength, k);
+            }
+            list_verdict(f, so, n, k)
+        }
+        HoursVerdict::Wrong(fault) => Verdict::Refused(Rule::BadHours(fault), k),
+    }
 }
 
 // Before the first notice stands none: no hours, on day 0.

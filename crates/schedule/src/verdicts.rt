@@ -2,8 +2,9 @@
 ghost use mathlib.Core.Path.{_≡_};
 ghost use Rattle.laws.specs.Table.{isRefusal};
 ghost use Rattle.schedule.specs.Verdicts.{ruleNumber, numberOf, placeOf, verdictPaper};
+use notices::HoursFault;
 
-// The rules of the list check, one for each number that it gives.
+// The rules of the list check; those of the hours are told apart by their fault.
 pub enum Rule {
     NoWinter,
     BadList,
@@ -11,7 +12,7 @@ pub enum Rule {
     OutsidePeriod,
     ExcludedDay,
     Weekend,
-    BadHours,
+    BadHours(HoursFault),
     BadLength,
     StartsBefore,
     SameBand,
@@ -35,7 +36,7 @@ fn rule_number(rule: Rule) -> u32
         Rule::OutsidePeriod => 10,
         Rule::ExcludedDay => 11,
         Rule::Weekend => 12,
-        Rule::BadHours => 13,
+        Rule::BadHours(fault) => notices::fault_number(fault),
         Rule::BadLength => 14,
         Rule::StartsBefore => 15,
         Rule::SameBand => 16,

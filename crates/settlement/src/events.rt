@@ -26,7 +26,7 @@ fn event_of(line: Line) -> Event
         Line::NoWinter => no_event(),
         Line::BadBook => no_event(),
         Line::OutsidePeriod => no_event(),
-        Line::BadHours => no_event(),
+        Line::BadHours(_) => no_event(),
     }
 }
 

@@ -14,10 +14,9 @@ from cases.event_books import (
     marked, needed, period, references, settled, step, sums_for, unlimited, unmarking, with_book,
     with_readings,
 )
-from cases.notice_lists import FAR_DAYS, FAR_HOURS, FARTHEST, every_shape, flat
+from cases.notice_lists import FAR_DAYS, FAR_HOURS, FARTHEST, every_shape, flat, hours_told
 from second import energies, notices, winters
 from second.energies import HIGHEST_READING, LONGEST_BOOK, MISSING, Query, place_of
-from second.numbers import EVENT
 
 WRONG_WINTERS = (0, 2009, 2099, 2**16 + 2026, 2**31 + 2026, FARTHEST)
 WRONG_DAYS = (0, 29, 152, *FAR_DAYS)
@@ -74,7 +73,7 @@ def hours_of_a_day():
     cases = []
     for hours in (*product(range(26), repeat=2), *far):
         query = with_book(source, drawn_query(source, hours=hours), SOUND_BOOKS)
-        cases.append(Case(query, None if hours in EVENT_HOURS else "13"))
+        cases.append(Case(query, None if hours in EVENT_HOURS else str(hours_told(1, *hours))))
     return cases
 
 
@@ -295,7 +294,8 @@ def wrong_calls():
         if wrong_hours:
             start, end = source.choice(WRONG_HOURS)
             query = query._replace(start=start, end=end)
-        broken = [number for number, is_wrong in zip(EVENT["refusal"], wrong) if is_wrong]
+        refusals = (1, 2, 10, hours_told(1, query.start, query.end))
+        broken = [number for number, is_wrong in zip(refusals, wrong) if is_wrong]
         cases.append(Case(query, str(broken[0]) if broken else None))
     return cases
 

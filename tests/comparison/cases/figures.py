@@ -40,11 +40,19 @@ JANUARY_3 = 63
 # Of lists: the line that the query must get. Day 38 of winter 2026 is a Wednesday.
 LIST_FIGURES = (
     ("profile 1: 6-10 stands", ListQuery(2026, 1, (38, 6, 10)), "0,0 masks=38:960 events=6+4"),
-    ("profile 1: 6-11 is 13", ListQuery(2026, 1, (38, 6, 11)), "13,0"),
+    ("profile 1: 6-11 is 27", ListQuery(2026, 1, (38, 6, 11)), "27,0"),
+    ("profile 1: 9-17 is 27", ListQuery(2026, 1, (38, 9, 17)), "27,0"),
+    ("profile 1: 9-6 is 13", ListQuery(2026, 1, (38, 9, 6)), "13,0"),
+    ("profile 1: 10-16 is 26", ListQuery(2026, 1, (38, 10, 16)), "26,0"),
+    ("profile 1: 20-30 is 26", ListQuery(2026, 1, (38, 20, 30)), "26,0"),
+    ("profile 1: 19-30 is 27", ListQuery(2026, 1, (38, 19, 30)), "27,0"),
+    ("profile 1: 24-24 is 13", ListQuery(2026, 1, (38, 24, 24)), "13,0"),
+    ("profile 1: 24-25 is 26", ListQuery(2026, 1, (38, 24, 25)), "26,0"),
+    ("profile 1: 0-4294967295 is 27", ListQuery(2026, 1, (38, 0, 4294967295)), "27,0"),
     ("profile 1: the same notice twice is 15", ListQuery(2026, 1, (38, 6, 9, 38, 6, 9)), "15,1"),
     ("profile 1: 6-7 then 8-9 is 16", ListQuery(2026, 1, (38, 6, 7, 38, 8, 9)), "16,1"),
     ("profile 2: 6-8 is 14", ListQuery(2026, 2, (38, 6, 8)), "14,0"),
-    ("profile 2: 9-10 is 13", ListQuery(2026, 2, (38, 9, 10)), "13,0"),
+    ("profile 2: 9-10 is 26", ListQuery(2026, 2, (38, 9, 10)), "26,0"),
     ("profile 1: the empty list is accepted", ListQuery(2026, 1, ()), "0,0 masks= events="),
     ("profile 2: the empty list is accepted", ListQuery(2026, 2, ()), "0,0 masks= events="),
     (
@@ -161,6 +169,10 @@ def limit_query(c):
 
 
 EVENT_FIGURES = (
+    *(
+        (f"{start}-{end} is {number}", sample_query()._replace(start=start, end=end), number)
+        for start, end, number in ((9, 6, "13"), (20, 30, "26"), (19, 30, "27"))
+    ),
     ("the sample: energy 81000", sample_query(), "0,0,0,81000"),
     *((name, limit_query(c), f"0,0,0,{energy}") for name, c, energy in LIMIT_FIGURES),
 )

@@ -293,6 +293,19 @@ def forward_hours(profile):
     return pairs
 
 
+def hours_told(profile, s, e):
+    """The number that these hours get by themselves, whatever they are; 0 if none."""
+    if e <= s:
+        return 13
+    bands = PROFILES[profile].bands
+    touched = [band for band in bands if any(s <= hour < e for hour in band)]
+    if not touched:
+        return 26
+    if s not in touched[0] or e - 1 not in touched[0]:
+        return 27
+    return 0 if e - s in PROFILES[profile].lengths else 14
+
+
 def outside_hours(profile):
     return forward_hours(profile)["outside"]
 
@@ -302,8 +315,13 @@ def across_hours(profile):
 
 
 def far_hours(profile):
-    """A start in or before a band with a far end, and both far."""
-    return [*product((0, 6, 8, 16, 19), FAR_HOURS), *combinations(sorted(FAR_HOURS), 2)]
+    """A start behind the last band with a far end, and both far."""
+    return [*product((20, 23, 24), FAR_HOURS), *combinations(sorted(FAR_HOURS), 2)]
+
+
+def far_ends(profile):
+    """A start in or before a band, with a far end."""
+    return list(product((0, 6, 8, 10, 16, 19), FAR_HOURS))
 
 
 def hours_of_wrong_length(profile):
@@ -398,9 +416,10 @@ BARRED_DAYS = (
 WRONG_HOURS = (
     (13, empty_hours),
     (13, reversed_hours),
-    (13, outside_hours),
-    (13, across_hours),
-    (13, far_hours),
+    (26, outside_hours),
+    (26, far_hours),
+    (27, across_hours),
+    (27, far_ends),
     (14, hours_of_wrong_length),
 )
 

@@ -11,7 +11,8 @@ from cases.checks import ACCEPTED, Case
 from cases.layers import ListQuery
 from cases.notice_lists import (
     BARRED_DAYS, FAR_DAYS, FAR_HOURS, FARTHEST, WAYS, WRONG_HOURS, allowed_hours, drawn_slots,
-    every_shape, flat, list_of_count, list_of_hours, notice_in, open_days, open_slots, room, spoil,
+    every_shape, flat, hours_told, list_of_count, list_of_hours, notice_in, open_days, open_slots,
+    room, spoil,
 )
 from second import winters
 from second.notices import MOST_NOTICES, PROFILES
@@ -37,11 +38,11 @@ RANDOM_LISTS = 10_000
 
 
 def valid_lists():
-    """Three of every shape for every winter."""
+    """Six of every shape for every winter."""
     source = random.Random(SEED)
     return [
         Case(ListQuery(winter, profile, flat(listed)), ACCEPTED)
-        for _ in range(3)
+        for _ in range(6)
         for winter, profile, listed in every_shape(source)
     ]
 
@@ -180,6 +181,22 @@ def edge_numbers():
     return cases
 
 
+def every_start_and_end():
+    """Every start and end that a day has, and some past it, under either profile: as the only
+    notice, behind another, before another and between two."""
+    numbers = (*range(27), *FAR_HOURS)
+    before, behind = (37, 6, 9), (39, 16, 20)
+    cases = []
+    for profile, s, e in product(PROFILES, numbers, numbers):
+        number = hours_told(profile, s, e)
+        for listed in ([], [before], [before, behind], [behind]):
+            place = listed.count(before)
+            numbers_of = flat([*listed[:place], (38, s, e), *listed[place:]])
+            built_for = (number, place) if number else ACCEPTED
+            cases.append(Case(ListQuery(2026, profile, numbers_of), built_for))
+    return cases
+
+
 def several_faults():
     """Lists of every shape, spoilt in two to four ways one after the other. Some have a
     number too many, a wrong profile or a wrong winter besides."""
@@ -271,6 +288,7 @@ GROUPS = (
     ("every length of a list", list_lengths),
     ("wrong winters, profiles and lengths", wrong_calls),
     ("edge numbers", edge_numbers),
+    ("every start and end of a notice", every_start_and_end),
     ("several faults", several_faults),
     ("several faults in one notice", several_faults_in_one_notice),
     ("random lists", random_lists),

@@ -185,6 +185,8 @@ static bool is_possible(enum function function, uint32_t number)
     case IBISLADDER_REFUSED_DAY:
     case IBISLADDER_REFUSED_EXCLUDED:
     case IBISLADDER_REFUSED_HOURS:
+    case IBISLADDER_REFUSED_NO_BAND:
+    case IBISLADDER_REFUSED_ACROSS:
     case IBISLADDER_REFUSED_ORDER:
     case IBISLADDER_REFUSED_BAND:
     case IBISLADDER_REFUSED_TOTAL: return true;

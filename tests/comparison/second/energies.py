@@ -230,9 +230,9 @@ def refusal(query):
         return 2
     if query.day not in notices.day_kinds(query.winter).period:
         return 10
-    if notices.band_of(PROFILES[1], query.event()) is None:
-        return 13
-    return 0
+    standing = notices.Standing(query.winter, PROFILES[1])
+    wrong = (number for number, broken in notices.HOUR_RULES if broken(standing, query.event()))
+    return next(wrong, 0)
 
 
 def fault(reading):

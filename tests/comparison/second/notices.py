@@ -141,8 +141,18 @@ def on_barred_weekend(standing, notice):
     return not standing.profile.weekends and notice.day in day_kinds(standing.winter).weekend
 
 
+def without_hours(standing, notice):
+    """It is over when it begins, or before."""
+    return not notice.hours()
+
+
+def in_no_band(standing, notice):
+    """No hour of any band is one of its own."""
+    return not any(hour in notice.hours() for band in standing.profile.bands for hour in band)
+
+
 def not_in_one_band(standing, notice):
-    """There are no hours, or no band has them all."""
+    """No band has all its hours."""
     return band_of(standing.profile, notice) is None
 
 
@@ -181,12 +191,19 @@ CALL_RULES = (
     (4, wrong_length),
 )
 
+# What is wrong with the hours of a notice.
+HOUR_RULES = (
+    (13, without_hours),
+    (26, in_no_band),
+    (27, not_in_one_band),
+)
+
 # All of them for one notice after the other.
 NOTICE_RULES = (
     (10, outside_winter_period),
     (11, on_excluded_day),
     (12, on_barred_weekend),
-    (13, not_in_one_band),
+    *HOUR_RULES,
     (14, of_wrong_length),
     (15, starts_too_early),
     (16, in_same_band),

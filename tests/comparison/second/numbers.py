@@ -7,27 +7,27 @@ The tests hold the library and the second program to them: each is given, and no
 # By profile. Under profile 1 hours inside one band always have an allowed length, so 14 is
 # never given; under profile 2 no band has room for two events, so 16 is never given.
 LIST_CHECK = {
-    "profile 1": (0, 1, 4, 10, 11, 13, 15, 16, 18),
-    "profile 2": (0, 1, 4, 10, 11, 12, 13, 14, 15, 18),
+    "profile 1": (0, 1, 4, 10, 11, 13, 26, 27, 15, 16, 18),
+    "profile 2": (0, 1, 4, 10, 11, 12, 13, 26, 27, 14, 15, 18),
     "neither": (1, 5),
 }
 
 # Of one event by itself, with a list and a book that nothing has looked at before. Document
 # 01 has no such call: which numbers it can give is a choice of ours, "One event, refused" in
 # docs/DECISIONS.md.
-EVENT = {"refusal": (1, 2, 10, 13), "code": (0, 20, 21, 22)}
+EVENT = {"refusal": (1, 2, 10, 13, 26, 27), "code": (0, 20, 21, 22)}
 
 # Its own rules, and those of the list check under profile 1. November always has five days
 # that serve, so no line of an accepted list has code 20.
 SETTLEMENT = {
-    "settlement": (0, 1, 2, 3, 4, 6, 10, 11, 13, 15, 16, 18),
+    "settlement": (0, 1, 2, 3, 4, 6, 10, 11, 13, 26, 27, 15, 16, 18),
     "line": (0, 21, 22),
 }
 
 # A text's book always has the right length and its output the room it needs, so 2 and 6 are
 # never given.
 TEXT = {
-    "text": (0, 1, 3, 4, 10, 11, 13, 15, 16, 18, 30, 31, 32),
+    "text": (0, 1, 3, 4, 10, 11, 13, 26, 27, 15, 16, 18, 30, 31, 32),
     "line": (0, 21, 22),
 }
 

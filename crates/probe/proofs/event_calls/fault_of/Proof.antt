@@ -29,8 +29,17 @@ enum-told-2 c = search needs
 enum-told-3 : tie.Need-enum-told-3
 enum-told-3 c = search needs
 
-enum-told-4 : tie.Need-enum-told-4
-enum-told-4 c = search needs
+enum-known-line-2 : tie.Need-enum-known-line-2
+enum-known-line-2 c = search needs
+
+fault-number-requires : tie.Need-fault-number-requires
+fault-number-requires c κs = search needs
+
+cast-result-3 : tie.Need-cast-result-3
+cast-result-3 c = search needs
+
+mul-result-2 : tie.Need-mul-result-2
+mul-result-2 c = search needs
 
 returns : tie.Need-returns
 returns c =
@@ -47,7 +56,9 @@ returns-4 : tie.Need-returns-4
 returns-4 c = rw (c .enum-told3 .given .1)
 
 returns-5 : tie.Need-returns-5
-returns-5 c = rw (c .enum-told4 .given .1)
+returns-5 c =
+    let wrong = c .before .before in
+    rw (wrong .line2 .given .1) (omega (arith, c .fault-number .ensures))
 
 pub fault-of-spec : {M : Type 1} → statement M
 fault-of-spec =
@@ -61,7 +72,10 @@ fault-of-spec =
     enum-told
     enum-told-2
     enum-told-3
-    enum-told-4
+    enum-known-line-2
+    fault-number-requires
+    cast-result-3
+    mul-result-2
     returns
     returns-2
     returns-3

@@ -23,11 +23,11 @@ loop-holds c = walk-start _ _ _ _ _ (c .nothing-before .ensures)
 notice-in-requires : tie.Need-notice-in-requires Inv-loop μ-loop
 notice-in-requires c κs = search needs
 
-cast-own-verdict : tie.Need-cast-own-verdict Inv-loop μ-loop
-cast-own-verdict c = search needs
+cast-day-verdict : tie.Need-cast-day-verdict Inv-loop μ-loop
+cast-day-verdict c = search needs
 
-own-verdict-requires : tie.Need-own-verdict-requires Inv-loop μ-loop
-own-verdict-requires c κs = search needs
+day-verdict-requires : tie.Need-day-verdict-requires Inv-loop μ-loop
+day-verdict-requires c κs = search needs
 
 cast-notice-verdict : tie.Need-cast-notice-verdict Inv-loop μ-loop
 cast-notice-verdict c = search needs
@@ -36,7 +36,7 @@ notice-verdict-requires : tie.Need-notice-verdict-requires Inv-loop μ-loop
 notice-verdict-requires c κs =
     let loop = c .before .before .before in
     let start = loop .before .before .before in
-    (record { winter = start .pre .winter; figures = start .pre .figures; sofar = loop .loop .inv .small }, c .own-verdict .ensures)
+    (record { winter = start .pre .winter; figures = start .pre .figures; sofar = loop .loop .inv .small }, c .day-verdict .ensures)
 
 is-refused-requires : tie.Need-is-refused-requires Inv-loop μ-loop
 is-refused-requires c κs = search needs
@@ -90,8 +90,8 @@ check-notices-spec =
     nothing-before-requires
     loop-holds
     notice-in-requires
-    cast-own-verdict
-    own-verdict-requires
+    cast-day-verdict
+    day-verdict-requires
     cast-notice-verdict
     notice-verdict-requires
     is-refused-requires
