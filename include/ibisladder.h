@@ -19,6 +19,8 @@
  *   book      all readings of a winter: 24 N numbers of 32 bits, day by day, the reading of an hour at index 24 * day + hour.
  *   notice    three numbers of 32 bits: its day, its first hour s, and the hour e at which it ends. Hour e is not one of its hours.
  *   list      0 to 100 notices, one behind the other, in the order of time.
+ *   band      the hours of a morning or of an evening in which a profile has its events (enum ibisladder_profile). An hour above
+ *             23, as the end of a notice may name it, is in none.
  *   price     in thousandths of a cent per kWh, 1 to 1,000,000.
  *   energy    in eighteenths of a Wh: the rules of the tariff then come out whole, and nothing is rounded.
  *   line      what the settlement writes for a notice: four numbers of 64 bits, which are the event code, its place, the energy
