@@ -68,7 +68,7 @@ module _ (f : Figures) (n : Notice) where
   )
 
   pub hours-iff : (badHours f n ≡ false) ↔ ((n .start < n .end) × InBand f n)
-  unfolding badHours
+  unfolding badHours noHours acrossBand
   hours-iff = (
     λ h. let p = neither (leb (n .end) (n .start)) (outside (f .morning) n && outside (f .evening) n) h in
         (leb-false (n .end) (n .start) (p .0), in-band-iff .0 (p .1)),
@@ -89,15 +89,15 @@ module _ (f : Figures) (n : Notice) where
       (rule .1)
 
   pub hours-kept : (k : ℕ) → NoneBroken (hourRows f n k) ↔ (badHours f n ≡ false)
-  unfolding noHours acrossBand badHours
+  unfolding badHours
   hours-kept k = (
-    λ t. no-fault (leb (n .end) (n .start)) (outside (f .morning) n && outside (f .evening) n) (t .0) (t .1 .1 .0),
-    λ e. let p = neither (leb (n .end) (n .start)) (outside (f .morning) n && outside (f .evening) n) e in (p .0, (in-some-band e, (p .1, tt))),
+    λ t. no-fault (noHours n) (acrossBand f n) (t .0) (t .1 .1 .0),
+    λ e. let p = neither (noHours n) (acrossBand f n) e in (p .0, (in-some-band e, (p .1, tt))),
   )
 
   -- hours that are bad, but not for want of any, are not inside one band
   pub across-band : badHours f n ≡ true → noHours n ≡ false → acrossBand f n ≡ true
-  unfolding badHours noHours acrossBand
+  unfolding badHours
   across-band e some = rw some at e
 
   -- the length

@@ -35,7 +35,7 @@ acrossBand f n = outside (f .morning) n && outside (f .evening) n
 
 -- whether one of the three is given (the law `hours-kept`): no hours, or not inside one band
 unfoldable pub badHours : Figures → Notice → Bool
-badHours f n = leb (n .end) (n .start) || (outside (f .morning) n && outside (f .evening) n)
+badHours f n = noHours n || acrossBand f n
 
 -- rules 3.3 and 4.13: 14, too short or too long an event
 unfoldable pub badLength : Figures → Notice → Bool
