@@ -27,6 +27,16 @@ def with_other_number(source, text):
     return text[:found.start()] + number + text[found.end():]
 
 
+def with_other_hours(source, text):
+    """A text with other hours in place of a notice's, where it has one."""
+    found = [*re.finditer(rb"(?m)^event=\d+,(\d+,\d+)$", text)]
+    if not found:
+        return text
+    start, end = source.choice(found).span(1)
+    hours = b"%d,%d" % (source.choice(NUMBERS), source.choice(NUMBERS))
+    return text[:start] + hours + text[end:]
+
+
 def with_other_lines(source, text):
     """A text with a line twice, gone, or in another place."""
     lines = text.splitlines(keepends=True) or [b""]
@@ -37,9 +47,11 @@ def with_other_lines(source, text):
     return b"".join(lines)
 
 
+WAYS = (with_other_bytes, with_other_number, with_other_hours, with_other_lines)
+
+
 def damaged(source, text):
     """A text damaged once or twice."""
     for _ in range(source.choice((1, 1, 2))):
-        damage = source.choice((with_other_bytes, with_other_number, with_other_lines))
-        text = damage(source, text)
+        text = source.choice(WAYS)(source, text)
     return text
