@@ -1,11 +1,10 @@
 """Reads the stack that each exported function needs at most from its x86-64 code.
 
-    objdump -d libhost.a | python3 bench/frames.py
+    objdump -dr libhost.a | python3 bench/frames.py
 
 A function's frame is its return address, what it pushes, and what it takes off the stack
-pointer. Nothing in a Rattle library calls itself, so an exported function needs at most its
-own frame and those of all inner functions, once each. What memcpy and memset need is not in
-it.
+pointer. Nothing in a Rattle library calls itself, so a function needs its own frame and the
+most that one of those needs which it calls. What memcpy and memset need is not in it.
 """
 
 import re
@@ -18,6 +17,7 @@ START = re.compile(r"[0-9a-f]+ <(.+)>:$")
 PUSH = re.compile(r"\tpush ")
 TAKE = re.compile(r"\tsub +\$0x([0-9a-f]+),%rsp")
 GIVE_BACK = re.compile(r"\tadd +\$0x([0-9a-f]+),%rsp")
+CALLED = re.compile(r"R_X86_64_(?:PLT32|PC32)\t(.+)-0x4$")
 
 
 def amounts(pattern, code):
@@ -43,11 +43,18 @@ def functions(lines):
     return found
 
 
+def need_bytes(name, code):
+    """What a function of the library needs, with those that it calls; one from elsewhere, nothing."""
+    if name not in code:
+        return 0
+    called = {found.group(1) for line in code[name] if (found := CALLED.search(line))}
+    return frame_bytes(code[name]) + max((need_bytes(other, code) for other in called), default=0)
+
+
 def main():
-    frames = {name: frame_bytes(code) for name, code in functions(sys.stdin).items()}
-    exported = {name: size for name, size in frames.items() if name.startswith(EXPORTED)}
-    inner = sum(frames.values()) - sum(exported.values())
-    needs = [f"{name} {size + inner}" for name, size in sorted(exported.items())]
+    code = functions(sys.stdin)
+    exported = sorted(name for name in code if name.startswith(EXPORTED))
+    needs = [f"{name} {need_bytes(name, code)}" for name in exported]
     print(f"stack by the code, at most, bytes: {', '.join(needs)}")
 
 

@@ -22,7 +22,9 @@ struct task {
 };
 
 static struct full_winter winter;
+static struct site site;
 static uint8_t out[OUT_BYTES];
+static uint8_t totals[TOTALS_BYTES];
 static uint8_t *stack;
 
 static void call_nothing(void)
@@ -41,6 +43,14 @@ static void call_settle(void)
 {
     ibisladder_settle(WINTER, winter.book, BOOK_BYTES, PRICE, winter.list, LIST_BYTES, out, OUT_BYTES);
     ibisladder_settle(WINTER, winter.book, BOOK_BYTES, PRICE, winter.list, LIST_BYTES, out, OUT_BYTES - 1);
+}
+
+static void call_power(void)
+{
+    ibisladder_power(WINTER, winter.book, BOOK_BYTES, site.list, sizeof site.list, site.references, sizeof site.references, out,
+                     OUT_BYTES, totals, TOTALS_BYTES);
+    ibisladder_power(WINTER, winter.book, BOOK_BYTES, site.list, sizeof site.list, site.references, sizeof site.references, out,
+                     OUT_BYTES, totals, TOTALS_BYTES - 1);
 }
 
 static void *run_task(void *given)
@@ -76,8 +86,10 @@ int main(void)
     if (stack == NULL)
         return EXIT_FAILURE;
     fill_winter(&winter);
-    long nothing = stack_of(call_nothing), check = stack_of(call_check), settle = stack_of(call_settle);
-    printf("stack written to, bytes: ibisladder_check %ld, ibisladder_settle %ld (calling nothing %ld)\n", check, settle, nothing);
+    fill_site(&site, 3);
+    long nothing = stack_of(call_nothing), check = stack_of(call_check), settle = stack_of(call_settle), power = stack_of(call_power);
+    printf("stack written to, bytes: ibisladder_check %ld, ibisladder_power %ld, ibisladder_settle %ld (calling nothing %ld)\n", check,
+           power, settle, nothing);
     free(stack);
     return EXIT_SUCCESS;
 }

@@ -42,3 +42,25 @@ void fill_winter(struct full_winter *winter)
     fill_list(winter->list);
     fill_book(winter->book);
 }
+
+/* 1 November 2026, day 0, is a Sunday. */
+static int is_weekend(uint32_t day)
+{
+    return day % 7 == 0 || day % 7 == 6;
+}
+
+/* One event a day, in the evening, those of three hours in the morning by turns. Of every fourth the reference is below any reading. */
+void fill_site(struct site *site, uint32_t hours)
+{
+    uint32_t day = 30, state = 1;
+    for (uint32_t i = 0; i < THREE_HOUR_NOTICES; i++, day++) {
+        while (is_excluded(day) || is_weekend(day))
+            day++;
+        uint32_t start = hours == 3 && i % 2 == 0 ? 6 : 16;
+        put_number(site->list, 3 * i, day);
+        put_number(site->list, 3 * i + 1, start);
+        put_number(site->list, 3 * i + 2, start + hours);
+        state = state * 1664525u + 1013904223u;
+        put_number(site->references, i, i % 4 == 3 ? 1000 : 50000 + (state >> 8) % 500000);
+    }
+}

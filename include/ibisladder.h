@@ -1,9 +1,10 @@
 /*
  * Ibisladder: what a building spared in the peaks of a winter, and what that is worth in cents.
  *
- * Two calls. ibisladder_check says whether a list of notices can stand together under the rules of a tariff, and if not, which
+ * Three calls. ibisladder_check says whether a list of notices can stand together under the rules of a tariff, and if not, which
  * rule it breaks first and where. ibisladder_settle works out, for each notice of such a list, the energy spared and its worth.
- * Both are proved to answer every input as the specification says; nothing has to be checked before a call.
+ * ibisladder_power settles the notices of a medium-power site, which is credited for the mean power that it spared. All three are
+ * proved to answer every input as the specification says; nothing has to be checked before a call.
  *
  * The archive libibisladder.a is position-independent code for x86-64 Linux and needs nothing but memcpy and memset. The shared
  * library libibisladder.so is the same code.
@@ -22,25 +23,33 @@
  *   band      the hours of a morning or of an evening in which a profile has its events (enum ibisladder_profile). An hour above
  *             23, as the end of a notice may name it, is in none.
  *   price     in thousandths of a cent per kWh, 1 to 1,000,000.
- *   energy    in eighteenths of a Wh: the rules of the tariff then come out whole, and nothing is rounded.
- *   line      what the settlement writes for a notice: four numbers of 64 bits, which are the event code, its place, the energy
- *             spared, and its cents. Neither energy nor cents are ever negative.
+ *   reference the power that the utility expects a medium-power site to draw in an event, in W: 0 to 10,000,000. References are
+ *             numbers of 32 bits, one for each notice, in the order of the list.
+ *   energy    what an event spared: in eighteenths of a Wh from ibisladder_settle, in Wh from ibisladder_power. The rules of the
+ *             tariff then come out whole, and nothing is rounded.
+ *   reduction the power that an event of a medium-power site spared, in twelfths of a W: its energy over its hours. Of these there
+ *             are 3 or 4, so that this comes out whole too: in twelfths it is the energy times 4 or times 3.
+ *   line      what a settlement writes for a notice: four numbers of 64 bits, which are the event code, its place, the energy
+ *             spared, and its cents, or from ibisladder_power its reduction. None of them is ever negative.
+ *   totals    what ibisladder_power writes beside its lines: three numbers of 64 bits, which are the reductions of all lines added
+ *             up, how many events are settled, and the credit in cents.
  *
  * A line's cents are the rounded worth of all lines up to it, less the rounded worth of all lines before it (halves go up), so
- * that the cents of the lines add up to the rounded worth of their energies. The two totals are the caller's to add up
- * (docs/RULES.md, rule 9.8).
+ * that the cents of the lines add up to the rounded worth of their energies. The two totals of ibisladder_settle, energy and cents,
+ * are the caller's to add up (docs/RULES.md, rule 9.8).
  *
  *
  * What the caller lends
  *
- * Lists, books and outputs are bytes: a pointer and a length in bytes. Numbers in them are little-endian, on every machine, and
- * need no alignment. Each pointer must be good for as many bytes as the length beside it says, and no byte beyond is touched.
- * It must not be NULL, not even beside the length 0: lend any address there, as that of a variable. The output must not overlap the
- * list or the book. The bytes themselves may be anything.
+ * Lists, books, references and outputs are bytes: a pointer and a length in bytes. Numbers in them are little-endian, on every
+ * machine, and need no alignment. Each pointer must be good for as many bytes as the length beside it says, and no byte beyond is
+ * touched. It must not be NULL, not even beside the length 0: lend any address there, as that of a variable. An output, and the
+ * totals are one too, must not overlap anything else that is lent, the other output included. The bytes themselves may be
+ * anything.
  *
- * What is lent is used during the call alone: nothing is kept, nothing is taken from the heap, and only the output is written to.
+ * What is lent is used during the call alone: nothing is kept, nothing is taken from the heap, and only outputs are written to.
  *
- * There is no state: any number of threads may call at once, with lists and books in common, as long as each has an output of its
+ * There is no state: any number of threads may call at once, with all that is read in common, as long as each has outputs of its
  * own. A call needs at most IBISLADDER_STACK_BYTES of stack.
  */
 #ifndef IBISLADDER_H
@@ -59,26 +68,33 @@ extern "C" {
  * with another. What may differ is the words of the two _text functions, the times and, below IBISLADDER_STACK_BYTES, the stack.
  */
 #define IBISLADDER_VERSION_MAJOR 0
-#define IBISLADDER_VERSION_MINOR 2
+#define IBISLADDER_VERSION_MINOR 3
 #define IBISLADDER_VERSION_PATCH 0
-#define IBISLADDER_VERSION "0.2.0"
+#define IBISLADDER_VERSION "0.3.0"
 
 /* Sizes and bounds. */
 #define IBISLADDER_FIRST_WINTER 2010u
 #define IBISLADDER_LAST_WINTER 2098u
-#define IBISLADDER_DAYS 151u           /* N, where the year after the winter's December is no leap year */
-#define IBISLADDER_DAYS_LEAP 152u      /* N, where it is one */
-#define IBISLADDER_HOURS 24u           /* hours of a day */
-#define IBISLADDER_MOST_NOTICES 100u   /* notices of a list, at most */
-#define IBISLADDER_NOTICE_NUMBERS 3u   /* numbers of a notice: day, first hour, end */
-#define IBISLADDER_LINE_NUMBERS 4u     /* numbers of an output line: code, place, energy, cents */
-#define IBISLADDER_NUMBER_BYTES 4u     /* bytes of a number in a book or a list */
-#define IBISLADDER_OUT_NUMBER_BYTES 8u /* bytes of a number in an output */
+#define IBISLADDER_DAYS 151u             /* N, where the year after the winter's December is no leap year */
+#define IBISLADDER_DAYS_LEAP 152u        /* N, where it is one */
+#define IBISLADDER_HOURS 24u             /* hours of a day */
+#define IBISLADDER_MOST_NOTICES 100u     /* notices of a list, at most */
+#define IBISLADDER_NOTICE_NUMBERS 3u     /* numbers of a notice: day, first hour, end */
+#define IBISLADDER_LINE_NUMBERS 4u       /* numbers of a line of ibisladder_settle: code, place, energy, cents */
+#define IBISLADDER_POWER_LINE_NUMBERS 4u /* numbers of a line of ibisladder_power: code, place, energy, reduction */
+#define IBISLADDER_TOTAL_NUMBERS 3u      /* numbers of the totals: reductions, settled events, credit */
+#define IBISLADDER_REDUCTION_PARTS 12u   /* parts of a W: a reduction counts these */
+#define IBISLADDER_NUMBER_BYTES 4u       /* bytes of a number in a book, a list or references */
+#define IBISLADDER_OUT_NUMBER_BYTES 8u   /* bytes of a number in an output */
 #define IBISLADDER_HIGHEST_PRICE 1000000u
 #define IBISLADDER_HIGHEST_READING 10000000u
-#define IBISLADDER_MISSING 4294967295u /* in a book: there is no reading of this hour */
+#define IBISLADDER_HIGHEST_REFERENCE 10000000u
+#define IBISLADDER_MISSING 4294967295u   /* in a book: there is no reading of this hour */
 
-/* Bytes of stack that a call needs, at most. By the code: 20,560 in ibisladder_settle, 56 in ibisladder_check. */
+/*
+ * Bytes of stack that a call needs, at most. By the code: 20,624 in ibisladder_settle, 19,552 in ibisladder_power, 56 in
+ * ibisladder_check.
+ */
 #define IBISLADDER_STACK_BYTES 24576u
 
 /* The profiles: which rules a list is checked under. */
@@ -90,30 +106,35 @@ enum ibisladder_profile {
 };
 
 /*
- * Why a call is refused: the number of its answer. The place of 10 to 27 is the index of the notice, from 0; that of the others
- * is 0. Of several reasons the first of the call's order is given, which is said at each call.
+ * Why a call is refused: the number of its answer. The place of 10 to 27 is the index of the notice, from 0, that of 41 the index
+ * of the reference, and that of the others 0. Of several reasons the first of the call's order is given, which is said at each call.
  */
 enum ibisladder_refusal {
-    IBISLADDER_ACCEPTED = 0,          /* not refused */
-    IBISLADDER_REFUSED_WINTER = 1,    /* the winter is outside 2010..2098 */
-    IBISLADDER_REFUSED_BOOK = 2,      /* the book is not 24 N whole numbers long */
-    IBISLADDER_REFUSED_PRICE = 3,     /* the price is outside 1..1,000,000 */
-    IBISLADDER_REFUSED_LIST = 4,      /* the list is not of whole notices, or has more than 100 */
-    IBISLADDER_REFUSED_PROFILE = 5,   /* the profile is neither 1 nor 2 */
-    IBISLADDER_REFUSED_OUTPUT = 6,    /* the output has fewer than four whole numbers a notice */
-    IBISLADDER_REFUSED_DAY = 10,      /* the day is outside the winter period, days 30 to N-1 */
-    IBISLADDER_REFUSED_EXCLUDED = 11, /* 24, 25, 26, 31 December, 1, 2 January, Good Friday or Easter Monday */
-    IBISLADDER_REFUSED_WEEKEND = 12,  /* a Saturday or Sunday, under profile 2 */
-    IBISLADDER_REFUSED_HOURS = 13,    /* the end is not after the start, as where the two are swapped */
-    IBISLADDER_REFUSED_LENGTH = 14,   /* the profile does not allow so few or so many hours */
-    IBISLADDER_REFUSED_ORDER = 15,    /* it starts before the notice before it ends, as a notice given twice does */
-    IBISLADDER_REFUSED_BAND = 16,     /* it is on the day and in the band of the notice before it */
-    IBISLADDER_REFUSED_TOTAL = 18,    /* with it the hours of the list pass 100 */
-    IBISLADDER_REFUSED_NO_BAND = 26,  /* no hour lies in a band of the profile */
-    IBISLADDER_REFUSED_ACROSS = 27    /* some hours do, but not all in one band, as where the start is mistyped */
+    IBISLADDER_ACCEPTED = 0,            /* not refused */
+    IBISLADDER_REFUSED_WINTER = 1,      /* the winter is outside 2010..2098 */
+    IBISLADDER_REFUSED_BOOK = 2,        /* the book is not 24 N whole numbers long */
+    IBISLADDER_REFUSED_PRICE = 3,       /* the price is outside 1..1,000,000 */
+    IBISLADDER_REFUSED_LIST = 4,        /* the list is not of whole notices, or has more than 100 */
+    IBISLADDER_REFUSED_PROFILE = 5,     /* the profile is neither 1 nor 2 */
+    IBISLADDER_REFUSED_OUTPUT = 6,      /* fewer than four whole numbers a notice in the output, or than three in the totals */
+    IBISLADDER_REFUSED_DAY = 10,        /* the day is outside the winter period, days 30 to N-1 */
+    IBISLADDER_REFUSED_EXCLUDED = 11,   /* 24, 25, 26, 31 December, 1, 2 January, Good Friday or Easter Monday */
+    IBISLADDER_REFUSED_WEEKEND = 12,    /* a Saturday or Sunday, under profile 2 */
+    IBISLADDER_REFUSED_HOURS = 13,      /* the end is not after the start, as where the two are swapped */
+    IBISLADDER_REFUSED_LENGTH = 14,     /* the profile does not allow so few or so many hours */
+    IBISLADDER_REFUSED_ORDER = 15,      /* it starts before the notice before it ends, as a notice given twice does */
+    IBISLADDER_REFUSED_BAND = 16,       /* it is on the day and in the band of the notice before it */
+    IBISLADDER_REFUSED_TOTAL = 18,      /* with it the hours of the list pass 100 */
+    IBISLADDER_REFUSED_NO_BAND = 26,    /* no hour lies in a band of the profile */
+    IBISLADDER_REFUSED_ACROSS = 27,     /* some hours do, but not all in one band, as where the start is mistyped */
+    IBISLADDER_REFUSED_REFERENCES = 40, /* there is not just one reference for each notice, or bytes are over */
+    IBISLADDER_REFUSED_REFERENCE = 41   /* the reference is above 10,000,000 */
 };
 
-/* How an event was settled: the first number of its line. A line that is not settled has energy 0, and stops no other. */
+/*
+ * How an event was settled: the first number of its line. A line that is not settled has energy 0, and 0 cents or reduction 0, and
+ * stops no other. FEW_DAYS is for ibisladder_settle alone.
+ */
 enum ibisladder_event {
     IBISLADDER_EVENT_SETTLED = 0,   /* the energy is what was spared; place 0 */
     IBISLADDER_EVENT_FEW_DAYS = 20, /* fewer than five reference days; does not come up, since November has as many; place 0 */
@@ -149,7 +170,7 @@ static inline const char *ibisladder_refusal_text(uint32_t number)
     case IBISLADDER_REFUSED_PRICE: return "the price is outside 1 to 1,000,000";
     case IBISLADDER_REFUSED_LIST: return "the list is not of whole notices, or has more than 100";
     case IBISLADDER_REFUSED_PROFILE: return "the profile is neither 1 nor 2";
-    case IBISLADDER_REFUSED_OUTPUT: return "the output has no room for a line for each notice";
+    case IBISLADDER_REFUSED_OUTPUT: return "the output has no room for a line for each notice, or the totals for three numbers";
     case IBISLADDER_REFUSED_DAY: return "the day is outside the winter period, 1 December to 31 March";
     case IBISLADDER_REFUSED_EXCLUDED: return "the day is excluded";
     case IBISLADDER_REFUSED_WEEKEND: return "this profile has no events on weekends";
@@ -160,6 +181,8 @@ static inline const char *ibisladder_refusal_text(uint32_t number)
     case IBISLADDER_REFUSED_TOTAL: return "with it the events have more than 100 hours";
     case IBISLADDER_REFUSED_NO_BAND: return "no hour is in a band of this profile";
     case IBISLADDER_REFUSED_ACROSS: return "not all hours are in one band of this profile";
+    case IBISLADDER_REFUSED_REFERENCES: return "there is not one reference for each notice";
+    case IBISLADDER_REFUSED_REFERENCE: return "the reference is above 10,000,000 W";
     default: return "a refusal that this version does not have";
     }
 }
@@ -195,6 +218,35 @@ uint32_t ibisladder_check(uint32_t winter, uint32_t profile, const uint8_t *list
  */
 uint32_t ibisladder_settle(uint32_t winter, const uint8_t *book, size_t book_length, uint32_t price, const uint8_t *list,
                            size_t list_length, uint8_t *out, size_t out_length);
+
+/*
+ * Settles the notices of a medium-power site under profile 2, the power option. Lengths are in bytes: 96 N the book, 12 a notice
+ * the list, 4 a notice the references, at least 32 a notice the output, and at least 24 the totals.
+ *
+ * Gives 0 and has written a line for each notice, in the order of the list, and the three totals; what is behind the last line in
+ * the output, and behind the third number in the totals, is left as it was. Or gives why not, and has written nothing to either:
+ * 1, 2, 4, 6 and 40 in this order, then 41 for the first reference that is too high, then the numbers of the notices as
+ * ibisladder_check gives them under profile 2.
+ *
+ * An event needs the readings of its own hours on its own day, and no other reading is looked at. Its energy is its reference times
+ * the number of its hours, less these readings; where that is negative it is 0.
+ *
+ * The effective power is the mean of the reductions of the settled events, as an exact fraction. An event that is settled with
+ * reduction 0 counts and pulls it down; one that is not settled does not count. The credit is the effective power times the rate
+ * that it falls under, rounded once, to the nearest cent (halves go up). Where no event is settled it is 0. The rates go by kW:
+ *
+ *     under 15                 none
+ *     15 to 199                66.69 dollars a kW
+ *     above 199, to 599        61.56
+ *     above 599, to 1,199      56.43
+ *     above 1,199, to 1,799    51.30
+ *     above 1,799              46.17
+ *
+ * A rate covers the whole power, so that past a bound the credit falls: 199 kW are worth more than 200 (docs/RULES.md, rule 11.9).
+ */
+uint32_t ibisladder_power(uint32_t winter, const uint8_t *book, size_t book_length, const uint8_t *list, size_t list_length,
+                          const uint8_t *references, size_t references_length, uint8_t *out, size_t out_length,
+                          uint8_t *totals, size_t totals_length);
 
 #ifdef __cplusplus
 }

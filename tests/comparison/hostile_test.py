@@ -20,11 +20,14 @@ from second import numbers
 
 SOURCES = [DRIVERS / f"{part}.c" for part in ("hostile", "trial", "material", "draw", "parts")]
 
-# The numbers that each call can give, and the codes of lines.
+# The numbers that each call can give, and the codes of lines; those of the medium-power settlement
+# are told as events.
 POSSIBLE = {
     "check": sorted(set().union(*numbers.LIST_CHECK.values())),
     "settle": numbers.SETTLEMENT["settlement"],
     "line": numbers.SETTLEMENT["line"],
+    "power": numbers.POWER["power"],
+    "event": numbers.POWER["line"],
 }
 
 # The calls take nothing from the heap, and looking for leaks takes as long as all of them.
@@ -40,8 +43,8 @@ class Extent(NamedTuple):
 
 
 # In an emulator a call takes some hundred times as long.
-SANITIZED_EXTENT = Extent(longest=36, drawn=50_000, least_calls=500_000)
-DELIVERED_EXTENT = Extent(longest=8, drawn=600, least_calls=25_000)
+SANITIZED_EXTENT = Extent(longest=36, drawn=50_000, least_calls=800_000)
+DELIVERED_EXTENT = Extent(longest=8, drawn=600, least_calls=45_000)
 
 SEEDS = {"end": 2026, "start": 2027}
 

@@ -2,7 +2,8 @@
 
 Each text must get the statement that stands beside it, which must be the second program's
 too. A wrong use gets a word on standard error and exit status 2, and nothing is printed.
-The mistakes that docs/TEXT.md tells of get the answers that it says, by the second program.
+The mistakes that docs/TEXT.md tells of get the answers that it says, by the second program, and the
+figures of docs/POWER.md are its too.
 The last line printed is "N passed, M failed".
 """
 
@@ -10,11 +11,14 @@ import re
 from functools import partial
 
 from common.harness import ROOT, Failure, ended, run, run_tests, scratch
+from host_page import Site, at, settled
+from second.energies import MISSING
 from second.statements import statement
 from sources import check_none, rows
 
 EXAMPLES = sorted((ROOT / "examples").glob("*.txt"))
 SCRIPT = ROOT / "scripts" / "statement"
+POWER_PAGE = ROOT / "docs" / "POWER.md"
 
 WRONG_USE = 2
 
@@ -77,6 +81,66 @@ def check_mistakes():
     check_none(found, "other answers")
 
 
+# The page on medium-power sites.
+
+
+def whole(cell):
+    """A number of the page, without its commas."""
+    return int(cell.replace(",", ""))
+
+
+def rows_under(head):
+    """The cells of the rows of the page's table with this head of a column."""
+    return [row.cells for row in rows(POWER_PAGE) if head in row.head]
+
+
+def readings_of(notice, drew):
+    """What the hours of a notice drew, as the page has it, by day and hour."""
+    day, start, _ = notice
+    values = [MISSING if one == "missing" else whole(one) for one in drew.split(" + ")]
+    return {(day, start + index): value for index, value in enumerate(values)}
+
+
+def site_of_page():
+    """The site that the page settles by hand."""
+    listed = rows_under("notice")
+    notices = [tuple(map(int, cells[0].split(","))) for cells in listed]
+    readings = {}
+    for notice, cells in zip(notices, listed):
+        readings |= readings_of(notice, cells[2])
+    return Site(notices, tuple(whole(cells[1]) for cells in listed), readings)
+
+
+def check_power_example():
+    """The lines of the page and its totals, as they are and with a reading of day 40 missing."""
+    site = site_of_page()
+    lines, totals = settled(site)
+    said = [tuple(map(whole, cells[3:])) for cells in rows_under("notice")]
+    if not said or said != lines:
+        raise Failure(f"the lines are {lines}, not {said}")
+    _, less = settled(site._replace(readings=site.readings | at([40], [6], MISSING)))
+    for cells, right in zip(rows_under("reductions"), (totals, less), strict=True):
+        reductions, count, _ = right
+        _, one, other, kilowatts, last = cells
+        if (whole(one), whole(other), whole(last)) != right:
+            raise Failure(f"the totals are {right}, not {cells}")
+        if kilowatts != f"{reductions / count / 12_000:.2f} kW":
+            raise Failure(f"{reductions} over {count} is not {kilowatts}")
+
+
+def check_power_credits():
+    """Each credit of the page is that of one event with this reduction."""
+    found, count = [], 0
+    for kilowatts, dollars in re.findall(r"([\d,]+) kW: \$([\d,.]+\d)", POWER_PAGE.read_text()):
+        count += 1
+        site = Site([(38, 6, 9)], (1000 * whole(kilowatts),), at([38], [6, 7, 8], 0))
+        _, (_, _, cents) = settled(site)
+        if f"{cents // 100:,}.{cents % 100:02}" != dollars:
+            found.append(f"{kilowatts} kW: {cents} cents, not {dollars}")
+    print(f"  credits: {count}")
+    check_none(found if count else ["none"], "other credits")
+
+
 def check_there_are_examples():
     """No example would test nothing."""
     if not EXAMPLES:
@@ -90,6 +154,8 @@ TESTS = [
     ("a folder for a file", partial(check_wrong_use, [ROOT / "examples"])),
     ("two files", partial(check_wrong_use, EXAMPLES[:1] * 2)),
     ("TEXT.md's mistakes get the answers that it says", check_mistakes),
+    ("POWER.md's winter by hand is the second program's", check_power_example),
+    ("POWER.md's credits are the second program's", check_power_credits),
 ]
 
 

@@ -11,7 +11,7 @@ from typing import NamedTuple
 
 from common.c_programs import HEADER
 from common.harness import ROOT, Failure
-from second import settlements
+from second import power, settlements
 from second.energies import HIGHEST_READING, HOURS, MISSING
 from second.notices import list_check
 from second.settlements import Call
@@ -88,18 +88,69 @@ def book_of(readings):
     return tuple(readings.get(pair, MISSING) for pair in product(range(DAYS), range(HOURS)))
 
 
+def line_said(notice, line):
+    """The line of a notice, with its code in words."""
+    day, hour = divmod(line.place, HOURS)
+    where = f": day {day}, hour {hour}" if line.code in MISSING_OR_LARGE else ""
+    words = words_of("ibisladder_event_text")[line.code]
+    return f"line={','.join(map(str, (*notice, *line)))}  {words}{where}"
+
+
 def account_page(account):
-    """The lines of a settlement, each with its code in words, and the totals."""
-    words = words_of("ibisladder_event_text")
+    """The lines of a settlement and the totals."""
     room = settlements.LINE_NUMBERS * len(account.notices)
     call = Call(WINTER, book_of(account.readings), account.price, flat(account.notices), room)
     given = settlements.settlement(call)
     yield from (f"winter={WINTER}", f"price={account.price}", f"events={len(account.notices)}")
-    for notice, line in zip(account.notices, given.lines):
-        day, hour = divmod(line.place, HOURS)
-        where = f": day {day}, hour {hour}" if line.code in MISSING_OR_LARGE else ""
-        yield f"line={','.join(map(str, (*notice, *line)))}  {words[line.code]}{where}"
+    yield from map(line_said, account.notices, given.lines)
     yield from (f"energy={given.energy}", f"total={given.cents}")
+
+
+# Medium-power sites.
+
+
+class Site(NamedTuple):
+    """A site's notices with their references, and its readings by day and hour."""
+    notices: list
+    references: tuple
+    readings: dict
+
+
+def medium_power():
+    """An event of three hours, one of four, one that spared nothing, one that lacks a reading."""
+    readings = at([38], [6, 7], 20000) | at([38], [8], 19500) | at([39], range(16, 20), 30000)
+    readings |= at([40], [6, 7, 8], 125000) | at([43], [16, 18], 30000)
+    return Site([(38, 6, 9), (39, 16, 20), (40, 6, 9), (43, 16, 19)], 4 * (120000,), readings)
+
+
+def at_bound(drawn):
+    """One event, of 200 kW less what was drawn."""
+    return Site([(38, 6, 9)], (200000,), at([38], [6, 7, 8], drawn))
+
+
+def call_of(site):
+    """The call that settles a site."""
+    room = settlements.LINE_NUMBERS * len(site.notices)
+    book, listed = book_of(site.readings), flat(site.notices)
+    return power.Call(WINTER, book, listed, site.references, room, power.TOTALS_NUMBERS)
+
+
+def settled(site):
+    """The lines of a site, and its three totals."""
+    events = power.settlement(call_of(site)).events
+    return power.lines_of(events), power.totals_of(events)
+
+
+def site_page(site):
+    """The lines of a site, each with its reference, and the totals, in kW and dollars too."""
+    lines, (reductions, count, cents) = settled(site)
+    yield from (f"winter={WINTER}", f"events={len(site.notices)}")
+    for reference, notice, line in zip(site.references, site.notices, lines):
+        yield f"reference={reference}  {line_said(notice, line)}"
+    watts = reductions // (12 * count)
+    yield from (f"reductions={reductions}", f"settled={count}")
+    said = f"{watts // 1000}.{watts % 1000:03} kW, {cents // 100}.{cents % 100:02}"
+    yield f"credit={cents}  {said} dollars"
 
 
 # Refusals.
@@ -136,22 +187,41 @@ def refused_settlements():
         yield tried, settlements.settlement(call)
 
 
-def refusal_page():
+def refused_sites():
+    """Medium-power sites that are refused for their references or their outputs."""
+    right = call_of(Site([(38, 6, 9), (39, 6, 9)], (10_000_000, 10_000_001), {}))
+    for tried, call in (
+        ("one reference for two notices", right._replace(references=right.references[:1])),
+        ("a second reference of 10,000,001 W", right),
+        ("a byte of the totals missing", right._replace(totals_room=power.TOTALS_NUMBERS - 1)),
+    ):
+        yield tried, power.settlement(call)
+
+
+def refusals_said(answers):
     """Each trial with its number, its place and its words."""
     words = words_of("ibisladder_refusal_text")
+    for tried, (number, place, *_) in answers:
+        yield f"{tried}: {number},{place}  {words[number]}"
+
+
+def refusal_page():
+    """All refusals: of lists, of settlements and of sites."""
     answers = [
         (tried, list_check(winter, profile, flat(notices)))
         for tried, winter, profile, notices in trials()
     ]
-    for tried, (number, place, *_) in (*answers, *long_lists(), *refused_settlements()):
-        yield f"{tried}: {number},{place}  {words[number]}"
+    yield from refusals_said([*answers, *long_lists(), *refused_settlements()])
+    yield "written by these: nothing"
+    yield from refusals_said(refused_sites())
     yield "written by these: nothing"
 
 
 def page():
     """All that the example prints."""
-    lines = [line for account in (sample(), at_limit(), halves()) for line in account_page(account)]
-    return "".join(f"{line}\n" for line in (*lines, *refusal_page()))
+    accounts = [account_page(account) for account in (sample(), at_limit(), halves())]
+    sites = [site_page(site) for site in (medium_power(), at_bound(1000), at_bound(0))]
+    return "".join(f"{line}\n" for part in (*accounts, *sites, refusal_page()) for line in part)
 
 
 if __name__ == "__main__":

@@ -25,9 +25,9 @@ from sources import check_none
 
 EXPECTED = ROOT / "examples" / "host.expected"
 
-# What the two calls are to need of a C library: what a C compiler asks of any.
+# What the three calls are to need of a C library: what a C compiler asks of any.
 ALLOWED_NEEDS = {"memcpy", "memset", "memmove"}
-CALLS = {"ibisladder_check", "ibisladder_settle"}
+CALLS = {"ibisladder_check", "ibisladder_settle", "ibisladder_power"}
 
 STATEMENT = ROOT / "target" / "bin" / "statement"
 SAMPLE = ROOT / "examples" / "winter.txt"
@@ -109,7 +109,7 @@ def symbols(*words):
 
 
 def check_given(given, needed):
-    """A library has the two calls and no other name to clash with a host's."""
+    """A library has the three calls and no other name to clash with a host's."""
     if given != CALLS:
         raise Failure(f"it has {sorted(given)}, not {sorted(CALLS)}")
     if not needed <= ALLOWED_NEEDS:
@@ -294,19 +294,21 @@ TESTS = [
     ("the header is C++17", partial(check_header, "c++", "c++", "c++17")),
     ("words for every refusal", partial(
         check_words, "ibisladder_refusal_text", ("IBISLADDER_ACCEPTED", "IBISLADDER_REFUSED_"),
-        set().union(numbers.SETTLEMENT["settlement"], *numbers.LIST_CHECK.values()),
+        {*numbers.SETTLEMENT["settlement"], *numbers.POWER["power"]}.union(
+            *numbers.LIST_CHECK.values()
+        ),
     )),
     ("words for every event code", partial(
         check_words, "ibisladder_event_text", ("IBISLADDER_EVENT_",), numbers.CODES,
     )),
     ("the version is said once", version),
     ("host.expected is the second program's", check_expected),
-    ("the archive has the two calls alone", check_symbols),
+    ("the archive has the three calls alone", check_symbols),
     ("the archive has no writable state", check_no_state),
     ("the example with the delivered archive", check_delivered),
     ("the example under sanitizers", check_sanitized),
     ("make install, and the example with its flags", check_installed),
-    ("make install: the shared library has the two calls alone", check_shared),
+    ("make install: the shared library has the three calls alone", check_shared),
     ("make install: the example with the shared library", check_shared_example),
     ("make install: the program", check_program),
     ("make install: the man pages", check_manuals),

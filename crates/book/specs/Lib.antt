@@ -3,3 +3,4 @@ pub mod Places
 pub mod Values
 pub mod Readings
 pub mod Part
+pub mod Refusals

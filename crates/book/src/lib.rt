@@ -3,6 +3,7 @@
 mod lengths;
 mod parts;
 mod places;
+mod refusals;
 mod runs;
 mod values;
 
@@ -12,6 +13,7 @@ pub use lengths::length_of;
 pub use lengths::wrong_length;
 pub use parts::day_readings;
 pub use places::hour_place;
+pub use refusals::book_refusal;
 pub use runs::first_fault;
 pub use runs::reading;
 pub use runs::sum_of;

@@ -1,11 +1,10 @@
 -- Laws of the settlement on bytes, one for each way out: refused by its lengths, refused by its notices, or settled.
 -- Assumes nothing.
 use Prim.Native.Nat.{ℕ, _*_, _/_, _≤_}
-use mathlib.Core.List.{List, _++_}
+use mathlib.Core.List.{List}
 use mathlib.Core.Path.{_≡_, sym, ap, _∙_}
 use native.Mathlib.Omega.{arith}
-use lib.ListN.{length, take, drop, length-append}
-use lib.Seq.{take-at, length-take-le}
+use lib.ListN.{length}
 use borrow.Author.Tests.{eq-eqb, ne-eqb}
 use Rattle.laws.specs.Bounds.{largestNumber, largestPlace}
 use Rattle.laws.specs.Table.{refusalAt, firstOf}
@@ -16,46 +15,15 @@ use Rattle.settlement.specs.Events.{eventAt}
 use Rattle.credit.specs.Refusals.{callRows}
 use Rattle.credit.specs.Settlement.{refusedWith, settlement, written}
 use Rattle.credit.specs.declared.call.Settlement.{Settlement}
-use Rattle.notices.specs.Notices.{countIn, countOf}
+use Rattle.notices.specs.Notices.{countOf}
 use Rattle.wire.proofs.DecodedLaws.{decoded-long, decoded-whole}
-use Rattle.wire.proofs.ReadLaws.{numbers-long, read-whole, read-long}
 use Rattle.wire.proofs.WriteLaws.{written-whole}
-use Rattle.wire.specs.Bytes.{numbersRead, bytesWritten}
+use Rattle.wire.specs.Bytes.{bytesWritten}
 use Rattle.wire.specs.Decoded.{numberCount, decoded}
 use Rattle.boundary.specs.Calls.{packed, packedSettlement, linesOver, settledOver, settleCall, settleBytes}
 use Rattle.boundary.specs.Whole.{JustRoom, wholeNumbers, wholeCall, wholeBytes, SettledBytes}
+use Rattle.boundary.proofs.Fronts.{whole-long}
 use Rattle.boundary.proofs.RightLengths.{RightLengths, right-lengths}
-
--- what was read with just the room for it
-pub read-is : (bytes numbers : List ℕ) → length numbers ≡ length bytes / 4 → numbersRead bytes numbers ≡ wholeNumbers bytes
-unfolding wholeNumbers
-read-is bytes numbers e = read-whole bytes numbers e
-
-pub whole-long : (bytes : List ℕ) → length (wholeNumbers bytes) ≡ length bytes / 4
-unfolding wholeNumbers
-whole-long bytes = numbers-long bytes (length bytes / 4)
-
--- what was read at the front of longer room
-module _ (bytes room x : List ℕ) (fits : length bytes / 4 ≤ length room) (read : x ≡ numbersRead bytes (take (length bytes / 4) room)) where
-  front-long : length x ≡ length bytes / 4
-  front-long = ap length read ∙ read-long bytes (take (length bytes / 4) room) ∙ length-take-le (length bytes / 4) room fits
-
-  pub front-fits : length bytes / 4 ≤ length (x ++ drop (length bytes / 4) room)
-  front-fits = simp length-append (omega (arith, front-long))
-
-  pub front-is : take (length bytes / 4) (x ++ drop (length bytes / 4) room) ≡ wholeNumbers bytes
-  front-is =
-      take-at x (drop (length bytes / 4) room) (length bytes / 4) front-long
-      ∙ read
-      ∙ read-is bytes (take (length bytes / 4) room) (length-take-le (length bytes / 4) room fits)
-
-  pub front-count : length bytes / 4 ≡ length (take (length bytes / 4) (x ++ drop (length bytes / 4) room))
-  front-count = sym (ap length front-is ∙ whole-long bytes)
-
--- just the room for the lines of a list of n numbers, at the front of longer room
-pub lines-room : (room : List ℕ) (n long lines : ℕ) → n ≡ long → lines ≡ countIn n → lineNumbers * lines ≤ length room
-    → length (take (lineNumbers * lines) room) ≡ lineNumbers * countIn long
-lines-room room n long lines e q h = length-take-le (lineNumbers * lines) room h ∙ rw (q, e)
 
 -- the call's refusal: number 0, or refused by winter, price or lengths
 module _ (w p : ℕ) (book list out : List ℕ) (readings numbers number : ℕ) (b : readings ≡ numberCount (length book)) (l : numbers ≡ numberCount (length list))

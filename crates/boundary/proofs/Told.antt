@@ -18,7 +18,7 @@ use Rattle.wire.specs.Decoded.{decoded}
 use Rattle.boundary.specs.Calls.{packed, checkCall, linesOver, settledOver, settleCall, settleBytes}
 
 -- number and place of one packed number
-packed-told : (number place : ℕ) → place ≤ largestPlace → (packed number place / 65536 ≡ number) × (packed number place % 65536 ≡ place)
+pub packed-told : (number place : ℕ) → place ≤ largestPlace → (packed number place / 65536 ≡ number) × (packed number place % 65536 ≡ place)
 packed-told number place h = (omega arith, omega arith)
 
 -- of a list check

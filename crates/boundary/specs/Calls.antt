@@ -2,9 +2,9 @@
 -- Assumes nothing.
 use Prim.Native.Nat.{ℕ, _+_, _*_, _/_}
 use mathlib.Core.Bool.{cond}
-use mathlib.Core.List.{List, _++_}
+use mathlib.Core.List.{List}
 use lib.Dec.{eqb}
-use lib.ListN.{length, getD, drop}
+use lib.ListN.{length, getD}
 use Rattle.laws.specs.Answer.{Answer}
 use Rattle.credit.specs.Lines.{lineNumbers, linesTo}
 use Rattle.settlement.specs.Events.{eventAt}
@@ -12,7 +12,7 @@ use Rattle.credit.specs.Settlement.{settlement}
 use Rattle.credit.specs.declared.call.Settlement.{Settlement}
 use Rattle.notices.specs.Notices.{countOf}
 use Rattle.schedule.specs.ListCheck.{checkAnswer}
-use Rattle.wire.specs.Bytes.{bytesTo}
+use Rattle.wire.specs.Bytes.{bytesOver}
 use Rattle.wire.specs.Decoded.{decoded}
 
 -- rule 9.5: number and place in one number
@@ -31,8 +31,7 @@ checkCall w profile list = packedAnswer (checkAnswer w profile (decoded list))
 
 -- an output once its lines are there: the bytes of the lines, and then its own (rule 9.7)
 abbrev pub linesOver : ℕ → List ℕ → ℕ → List ℕ → List ℕ → List ℕ
-linesOver w book p list out =
-    bytesTo (linesTo p (eventAt w book list) (countOf list)) (lineNumbers * countOf list) ++ drop (8 * (lineNumbers * countOf list)) out
+linesOver w book p list out = bytesOver (linesTo p (eventAt w book list) (countOf list)) (lineNumbers * countOf list) out
 
 -- the settlement of numbers, its lines put over the bytes of an output, which has room for so many numbers
 unfoldable pub settledOver : ℕ → List ℕ → ℕ → List ℕ → ℕ → List ℕ → List ℕ

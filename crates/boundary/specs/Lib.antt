@@ -1,2 +1,4 @@
 pub mod Calls
 pub mod Whole
+pub mod PowerCalls
+pub mod PowerWhole

@@ -6,12 +6,10 @@ use mathlib.Core.Bool.{Bool, true, false}
 use mathlib.Core.List.{List}
 use mathlib.Core.Logic.{inl, _↔_}
 use mathlib.Core.Path.{_≡_, refl, ap}
-use native.Mathlib.Omega.{arith}
 use lib.ListN.{length}
 use Rattle.book.specs.Length.{bookLength}
-use Rattle.calendar.specs.WinterOf.{winterOf}
 use Rattle.dates.specs.Winters.{days}
-use Rattle.laws.proofs.Tables.{Numbered, unrefused-none}
+use Rattle.laws.proofs.Tables.{unrefused-none}
 use Rattle.laws.proofs.Tells.{Tells, table-tells}
 use Rattle.laws.specs.Answer.{Answer}
 use Rattle.laws.specs.Table.{Row, isRefusal}
@@ -20,12 +18,11 @@ use Rattle.notices.specs.Notices.{countOf}
 use Rattle.notices.specs.Profiles.{figuresOf}
 use Rattle.notices.specs.declared.profiles.Profile.the-variants.{Credit}
 use Rattle.schedule.proofs.Accepted.{Lawful}
-use Rattle.schedule.proofs.Walk.{notices-numbered}
 use Rattle.credit.specs.Lines.{lineNumbers}
-use Rattle.credit.specs.Refusals.{callRows, settlementTable, refusalOf}
+use Rattle.credit.specs.Refusals.{settlementTable, refusalOf}
 use Rattle.credit.specs.Settlement.{settlement, written}
 use Rattle.credit.specs.declared.call.Settlement.{Settlement}
-use Rattle.credit.proofs.RefusalLaws.{RightCall, settlement-right, list-lawful, right-accepted}
+use Rattle.credit.proofs.RefusalLaws.{RightCall, table-numbered, settlement-right, list-lawful, right-accepted}
 use Rattle.credit.proofs.SettlementLaws.{number-is, settled-accepted, settled-by, written-by}
 
 -- all that a settlement asks: rule 10.3, with the call's own rules
@@ -47,11 +44,6 @@ accepted-iff-settles w p book l room = (
 )
 
 -- number and place are told by the table: 0 where no row is broken, else those of its first broken row
-table-numbered : (w readings p : ℕ) (l : List ℕ) (room : ℕ) → Numbered (settlementTable w readings p l room)
-unfolding settlementTable callRows
-table-numbered w readings p l room =
-    (omega arith, (omega arith, (omega arith, (omega arith, (omega arith, notices-numbered (winterOf w) (figuresOf Credit) l)))))
-
 pub settlement-tells : (w p : ℕ) (book l : List ℕ) (room : ℕ)
     → Tells (settlementTable w (length book) p l room) (settlement w book p l room .number) (settlement w book p l room .place)
 unfolding refusalOf

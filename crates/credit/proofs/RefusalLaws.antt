@@ -6,15 +6,16 @@ use mathlib.Core.List.{List, _++_}
 use mathlib.Core.Path.{_≡_, sym, ap, subst, _∙_}
 use native.Mathlib.Omega.{arith}
 use lib.ListN.{length}
-use borrow.Author.Tests.{ne-eqb, ltb-false, le-ltb}
-use Rattle.book.proofs.LengthLaws.{right-length, length-right}
-use Rattle.book.specs.Length.{bookLength, wrongLength}
+use borrow.Author.Tests.{ltb-false, le-ltb}
+use Rattle.book.proofs.RefusalLaws.{book-numbered, book-bounded, right-book}
+use Rattle.book.specs.Length.{bookLength}
+use Rattle.book.specs.Refusals.{bookRows}
 use Rattle.dates.proofs.Promise.{winter-range}
 use Rattle.dates.specs.Winters.{days}
 use Rattle.calendar.specs.WinterOf.{winterOf}
 use Rattle.laws.proofs.Every.{left, right, joined}
-use Rattle.laws.proofs.Tables.{Numbered, NoneBroken, unrefused-none, none-accepted, part-stops, part-goes, Bounded, RowsBounded, bounded-first, bounded-parts}
-use Rattle.laws.specs.Bounds.{largestNumber}
+use Rattle.laws.proofs.Tables.{Numbered, NoneBroken, unrefused-none, none-accepted, part-goes, told-stops, Bounded, RowsBounded, bounded-first, bounded-parts}
+use Rattle.laws.specs.Bounds.{largestNumber, largestPlace}
 use Rattle.laws.specs.Table.{refusalAt, Row, firstOf, isRefusal}
 use Rattle.money.proofs.PriceLaws.{RightPrice, right-price, price-right}
 use Rattle.notices.specs.Notices.{noticeNumbers, mostNotices, countIn, countOf}
@@ -26,7 +27,7 @@ use Rattle.schedule.proofs.RuleLaws.{checked-notices}
 use Rattle.schedule.proofs.Walk.{list-fits, notices-numbered}
 use Rattle.schedule.specs.ListCheck.{noticesTable, checkedIn}
 use Rattle.credit.specs.Lines.{lineNumbers}
-use Rattle.credit.specs.Refusals.{badBook, shortOutput, callRows, settlementTable, refusalOf}
+use Rattle.credit.specs.Refusals.{shortOutput, ownRows, callRows, settlementTable, refusalOf}
 use Rattle.credit.specs.Settlement.{Fits}
 
 -- what holds of a call that is not refused
@@ -43,27 +44,30 @@ right-fits {p = p} r = record { room-for = r .room-for; few = r .few; price = pr
 
 call-numbered : (w readings p numbers room : ℕ) → Numbered (callRows w readings p numbers room)
 unfolding callRows
-call-numbered w readings p numbers room = omega arith
+call-numbered w readings p numbers room =
+    joined (λ (r : Row). 1 ≤ r .number) (bookRows w readings) (ownRows p numbers room) (book-numbered w readings) (omega arith)
 
 none-right : (w readings p numbers room : ℕ) → NoneBroken (callRows w readings p numbers room) → RightCall w readings p numbers room
-unfolding callRows badBook shortOutput
+unfolding callRows shortOutput
 none-right w readings p numbers room none =
+    let book = right-book w readings .0 (left (λ (r : Row). r .broken ≡ false) (bookRows w readings) (ownRows p numbers room) none) in
+    let rest = right (λ (r : Row). r .broken ≡ false) (bookRows w readings) (ownRows p numbers room) none in
     record {
-      winter = winter-range w .0 (none .0);
-      book = right-length (days w) readings (none .1 .0);
-      price = right-price p (none .1 .1 .0);
-      whole = list-fits numbers (none .1 .1 .1 .0) .whole;
-      few = list-fits numbers (none .1 .1 .1 .0) .few;
-      room-for = ltb-false room (lineNumbers * countIn numbers) (none .1 .1 .1 .1 .0);
+      winter = book .0;
+      book = book .1;
+      price = right-price p (rest .0);
+      whole = list-fits numbers (rest .1 .0) .whole;
+      few = list-fits numbers (rest .1 .0) .few;
+      room-for = ltb-false room (lineNumbers * countIn numbers) (rest .1 .1 .0);
     }
 
 right-none : (w readings p numbers room : ℕ) → RightCall w readings p numbers room → NoneBroken (callRows w readings p numbers room)
-unfolding callRows badBook shortOutput
+unfolding callRows shortOutput
 right-none w readings p numbers room s =
-    let book : wrongLength (days w) readings ≡ false = length-right (days w) readings (s .book) in
     let list = whole-test numbers (s .whole) (s .few) in
     let room-there = le-ltb room (lineNumbers * countIn numbers) (s .room-for) in
-    (winter-range w .1 (s .winter), (book, (price-right p (s .price), (list, (room-there, tt)))))
+    joined (λ (r : Row). r .broken ≡ false) (bookRows w readings) (ownRows p numbers room) (right-book w readings .1 (s .winter, s .book))
+    (price-right p (s .price), (list, (room-there, tt)))
 
 pub call-right : (w readings p numbers room : ℕ) → isRefusal (firstOf (callRows w readings p numbers room)) ≡ false → RightCall w readings p numbers room
 call-right w readings p numbers room e =
@@ -76,6 +80,12 @@ module _ (w readings p : ℕ) (l : List ℕ) (room : ℕ) where
   abbrev notices : List Row
   notices = noticesTable (winterOf w) (figuresOf Credit) l
 
+  pub table-numbered : Numbered (settlementTable w readings p l room)
+  unfolding settlementTable
+  table-numbered =
+      let own = call-numbered w readings p (length l) room in
+      joined (λ (r : Row). 1 ≤ r .number) call notices own (notices-numbered (winterOf w) (figuresOf Credit) l)
+
   -- past a call's own rows those of the notices decide
   pub right-refusal : RightCall w readings p (length l) room → firstOf notices ≡ refusalOf w readings p l room
   unfolding refusalOf settlementTable
@@ -85,7 +95,7 @@ module _ (w readings p : ℕ) (l : List ℕ) (room : ℕ) where
   module _ (number : ℕ) (e : refusalAt number 0 ≡ firstOf call) where
     pub refusal-call : (number ≡ 0 → ⊥) → refusalAt number 0 ≡ refusalOf w readings p l room
     unfolding refusalOf settlementTable
-    refusal-call f = e ∙ part-stops call notices (rw (← e, ne-eqb number 0 f))
+    refusal-call f = told-stops call number e notices f
 
     pub call-is-right : number ≡ 0 → RightCall w readings p (length l) room
     call-is-right z = call-right w readings p (length l) room (rw (← e, z))
@@ -100,10 +110,7 @@ module _ (w readings p : ℕ) (l : List ℕ) (room : ℕ) where
   module _ (e : isRefusal (refusalOf w readings p l room) ≡ false) where
     none-broken : NoneBroken (call ++ notices)
     unfolding refusalOf settlementTable
-    none-broken =
-        let own = call-numbered w readings p (length l) room in
-        let numbered = joined (λ (r : Row). 1 ≤ r .number) call notices own (notices-numbered (winterOf w) (figuresOf Credit) l) in
-        unrefused-none (call ++ notices) numbered e
+    none-broken = unrefused-none (call ++ notices) table-numbered e
 
     pub settlement-right : RightCall w readings p (length l) room
     settlement-right = none-right w readings p (length l) room (left (λ (r : Row). r .broken ≡ false) call notices none-broken)
@@ -125,7 +132,9 @@ module _ (w readings p : ℕ) (l : List ℕ) (room : ℕ) where
 -- numbers and places are bounded
 rows-bounded : (w readings p numbers room : ℕ) → RowsBounded (callRows w readings p numbers room)
 unfolding callRows
-rows-bounded w readings p numbers room = omega arith
+rows-bounded w readings p numbers room =
+    joined (λ (r : Row). (r .number ≤ largestNumber) × (r .place ≤ largestPlace)) (bookRows w readings) (ownRows p numbers room)
+    (book-bounded w readings) (omega arith)
 
 pub call-bounded : (w readings p numbers room number : ℕ) → refusalAt number 0 ≡ firstOf (callRows w readings p numbers room) → number ≤ largestNumber
 call-bounded w readings p numbers room number e =

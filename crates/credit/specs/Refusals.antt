@@ -5,9 +5,8 @@ use mathlib.Core.Bool.{Bool}
 use mathlib.Core.List.{List, [], _∷_, _++_}
 use lib.Dec.{ltb}
 use lib.ListN.{length}
-use Rattle.book.specs.Length.{wrongLength}
+use Rattle.book.specs.Refusals.{bookRows}
 use Rattle.calendar.specs.WinterOf.{winterOf}
-use Rattle.dates.specs.Winters.{noWinter, days}
 use Rattle.laws.specs.Answer.{Answer}
 use Rattle.laws.specs.Table.{Row, row, firstOf}
 use Rattle.money.specs.Price.{badPrice}
@@ -17,23 +16,16 @@ use Rattle.notices.specs.declared.profiles.Profile.the-variants.{Credit}
 use Rattle.schedule.specs.ListCheck.{noticesTable, badList}
 use Rattle.credit.specs.Lines.{lineNumbers}
 
--- rule 4.4: no book of that winter
-unfoldable pub badBook : ℕ → ℕ → Bool
-badBook w readings = wrongLength (days w) readings
-
 -- rule 4.8: too little room, by how many numbers the list has
 unfoldable pub shortOutput : ℕ → ℕ → Bool
 shortOutput numbers room = ltb room (lineNumbers * countIn numbers)
 
--- by winter and price, and by how many numbers the book, the list and the output have (rule 4.22)
+-- by winter and price, and by how many numbers the book, the list and the output have: the book's rows, and then these (rule 4.22)
+abbrev pub ownRows : ℕ → ℕ → ℕ → List Row
+ownRows p numbers room = row 3 0 (badPrice p) ∷ row 4 0 (badList numbers) ∷ row 6 0 (shortOutput numbers room) ∷ []
+
 unfoldable pub callRows : ℕ → ℕ → ℕ → ℕ → ℕ → List Row
-callRows w readings p numbers room =
-    row 1 0 (noWinter w)
-    ∷ row 2 0 (badBook w readings)
-    ∷ row 3 0 (badPrice p)
-    ∷ row 4 0 (badList numbers)
-    ∷ row 6 0 (shortOutput numbers room)
-    ∷ []
+callRows w readings p numbers room = bookRows w readings ++ ownRows p numbers room
 
 -- the whole table, and the first row of it that is broken; no reading is looked at (rule 4.22)
 unfoldable pub settlementTable : ℕ → ℕ → ℕ → List ℕ → ℕ → List Row

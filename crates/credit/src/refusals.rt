@@ -3,7 +3,6 @@ ghost use mathlib.Core.Path.{_≡_};
 ghost use Rattle.laws.specs.Table.{refusalAt, firstOf};
 ghost use Rattle.credit.specs.Refusals.{shortOutput, callRows};
 use crate::lines::LINE_NUMBERS;
-use dates::Days;
 
 // 6: the output has too little room (rule 4.8). Divided on both sides, so that no length is too large.
 fn short_output(numbers: usize, room: usize) -> bool
@@ -17,12 +16,9 @@ fn short_output(numbers: usize, room: usize) -> bool
 pub fn call_refusal(winter: u32, readings: usize, price: u32, numbers: usize, room: usize) -> u32
     ensures { λ r. ⌜ refusalAt r 0 ≡ firstOf (callRows winter readings price numbers room) ⌝ }
 {
-    let days = dates::winter_days(winter);
-    let Days::Are(count) = days else {
-        return 1;
-    };
-    if book::wrong_length(count, readings) {
-        return 2;
+    let number = book::book_refusal(winter, readings);
+    if number != 0 {
+        return number;
     }
     if money::bad_price(price) {
         return 3;

@@ -1,9 +1,12 @@
+pub mod ByFault
 pub mod Demand1
 pub mod Demand2
 pub mod Demand3
 pub mod Lendable
 pub mod LentBytes
 pub mod Lines
+pub mod Power
+pub mod PowerC
 pub mod Printed
 pub mod Sheets
 pub mod Small

@@ -10,8 +10,6 @@ use native.Mathlib.Omega.{arith}
 use lib.ListN.{length}
 use Rattle.book.proofs.FirstFault.{Holds, FaultTells}
 use Rattle.book.specs.Readings.{firstFault}
-use Rattle.book.specs.declared.values.Fault.the-variants.{Clean, Missing, TooLarge}
-use Rattle.book.specs.declared.values.Fault.{Fault}
 use Rattle.calendar.specs.WinterOf.{winterOf}
 use Rattle.references.proofs.FiveFound.{free-zero, why-serves, serves-so, five-found}
 use Rattle.references.proofs.ReferenceLaws.{zero-free}
@@ -30,6 +28,7 @@ use Rattle.notices.specs.declared.notices.Notice.{Notice}
 use Rattle.notices.specs.declared.profiles.Figures.{Figures}
 use Rattle.schedule.proofs.Standing.{Standing}
 use Rattle.demands.specs.Demand2.{Serves, FiveNearest, Unsettled, EventLine}
+use Rattle.demands.proofs.ByFault.{unsettled-by}
 
 -- reference days by the masks of a list that stands are those by its notices
 module _ {y : ℕ} {f : Figures} {l : List ℕ} (st : Standing y f l) (day : ℕ) where
@@ -82,19 +81,13 @@ module _ (book : List ℕ) (q : Asked) (five : length (q .refs) ≡ 5) where
       let is = settled-where book q (settled-only book q z) in
       (ap (λ (e : Event). e .place) is, ap (λ (e : Event). e .energy) is)
 
-  by-first : (f : Fault) → FaultTells book (needed q) f → (byFault f (energyOf book q) .code ≡ 0 → ⊥)
-      → Unsettled book (needed q) (byFault f (energyOf book q) .code) (byFault f (energyOf book q) .place) (byFault f (energyOf book q) .energy)
-  by-first Clean told not = absurd (not refl)
-  by-first (Missing p) told not = record { no-energy = refl; first = told .0; why = inl (refl, told .1) }
-  by-first (TooLarge p) told not = record { no-energy = refl; first = told .0; why = inr (refl, told .1, told .2) }
-
   pub unsettled-so : (line .code ≡ 0 → ⊥) → Unsettled book (needed q) (line .code) (line .place) (line .energy)
   unsettled-so = by line (line-why book q)
     where
       by : (e : Event) → Why book q e → (e .code ≡ 0 → ⊥) → Unsettled book (needed q) (e .code) (e .place) (e .energy)
       by e (inl few) not = absurd (omega (arith, few .few-refs))
       by e (inr enough) not =
-          rw (enough .says) (by-first (firstFault book (needed q)) (enough .told) (rw (enough .says) at not))
+          rw (enough .says) (unsettled-by book (needed q) (energyOf book q) (firstFault book (needed q)) (enough .told) (rw (enough .says) at not))
 
 pub event-line : {y : ℕ} {f : Figures} {l : List ℕ} → Standing y f l → (book : List ℕ) (n : Notice) → 30 ≤ n .day
     → (code place energy : ℕ)

@@ -105,7 +105,7 @@ module _ (winter price : ℕ) (book list out : List ℕ) (ok : settlement winter
         energies-add-up winter price book list out ok,
         total-most,
       ) in
-      omega (arith, no-line-negative winter price book list out ok k h, worth-nearest price energy .0, worth-fits price energy (settles .price .most) few)
+      omega (arith, no-line-negative winter price book list out ok k h, worth-nearest price energy .above, worth-fits price energy (settles .price .most) few)
 
   pub line-fits : (k : ℕ) → k < n → SmallLine sheet k
   line-fits k h =

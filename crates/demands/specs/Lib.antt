@@ -1,3 +1,5 @@
 pub mod Faces
 pub mod Demand2
 pub mod Demand3
+pub mod PowerSheet
+pub mod PowerDemand

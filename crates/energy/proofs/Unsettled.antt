@@ -24,6 +24,13 @@ use Rattle.energy.specs.Energy.{energyOf}
 use Rattle.energy.specs.Line.{settled, unsettled, byFault, lineOf}
 use Rattle.energy.specs.declared.events.Event.{Event}
 
+-- code and place by a fault are small where its place is
+pub fault-small : (m : ℕ) → 0 < m → (f : Fault) (energy : ℕ) → AtPlace (λ (p : ℕ). p < m) f
+    → (byFault f energy .code ≤ 22) × (byFault f energy .place < m)
+fault-small m some Clean energy h = (omega arith, some)
+fault-small m some (Missing p) energy h = (omega arith, h)
+fault-small m some (TooLarge p) energy h = (omega arith, h)
+
 module _ (book : List ℕ) (q : Asked) where
   -- why a line says this: code 20 for fewer than five reference days
   pub record FewRefs (e : Event) : Type 0 where
@@ -75,15 +82,10 @@ module _ (book : List ℕ) (q : Asked) where
   pub line-small : (m : ℕ) → 0 < m → Every (λ (p : ℕ). p < m) (needed q) → (lineOf book q .code ≤ 22) × (lineOf book q .place < m)
   line-small m some places = by (lineOf book q) line-why
     where
-      by-fault : (f : Fault) (energy : ℕ) → AtPlace (λ (p : ℕ). p < m) f → (byFault f energy .code ≤ 22) × (byFault f energy .place < m)
-      by-fault Clean energy h = (omega arith, some)
-      by-fault (Missing p) energy h = (omega arith, h)
-      by-fault (TooLarge p) energy h = (omega arith, h)
-
       by : (e : Event) → Why e → (e .code ≤ 22) × (e .place < m)
       by e (inl few) = rw (few .says) (omega arith, some)
       by e (inr enough) =
-          rw (enough .says) (by-fault (firstFault book (needed q)) (energyOf book q) (fault-among book (λ (p : ℕ). p < m) (needed q) places))
+          rw (enough .says) (fault-small m some (firstFault book (needed q)) (energyOf book q) (fault-among book (λ (p : ℕ). p < m) (needed q) places))
 
 -- what is asked by the days that are free is asked with the reference days
 pub asked-is : (w : Winter) (free : ℕ → Bool) (n : Notice) → askedBy w free n ≡ askedWith w n (referenceDays w free (n .day))

@@ -3,7 +3,7 @@ ghost use mathlib.Core.Path.{_≡_};
 ghost use Rattle.energy.specs.Line.{byFault};
 use book::Fault;
 
-// An event: its code, its place and its spared energy in eighteenths of a Wh.
+// An event: its code, its place and its spared energy, in eighteenths of a Wh for the winter credit and in Wh for a medium-power site.
 pub struct Event {
     pub code: u32,
     pub place: u32,
@@ -11,7 +11,7 @@ pub struct Event {
 }
 
 // An event by the first fault among its needed readings, or by its energy where there is none.
-pub(crate) fn by_fault(fault: Fault, energy: u64) -> Event
+pub fn by_fault(fault: Fault, energy: u64) -> Event
     ensures { λ r. ⌜ r ≡ byFault fault energy ⌝ }
 {
     match fault {

@@ -11,3 +11,4 @@ mod trimmed;
 pub use call::Line;
 pub use call::settle_event;
 pub use events::Event;
+pub use events::by_fault;

@@ -3,8 +3,9 @@
 -- Assumes nothing.
 use mathlib.Core.List.{flatten, map}
 use mathlib.Core.Path.{_≡_, refl}
-use Rattle.book.specs.Places.{hoursFrom, placesOn}
+use Rattle.book.specs.Places.{hoursFrom, run, placesOn}
 use Rattle.book.specs.Readings.{firstFault, sumOver}
+use Rattle.book.specs.Refusals.{badBook, bookRows}
 use Rattle.book.specs.Values.{faultOf}
 use Rattle.boundary.specs.Calls.{checkCall}
 use Rattle.wire.specs.Decoded.{decoded}
@@ -35,7 +36,7 @@ use Rattle.laws.specs.Sums.{sumTo}
 use Rattle.money.specs.Cents.{centsAt}
 use Rattle.money.specs.Price.{badPrice}
 use Rattle.settlement.specs.Events.{eventAt}
-use Rattle.credit.specs.Refusals.{badBook, shortOutput, callRows, settlementTable, refusalOf}
+use Rattle.credit.specs.Refusals.{shortOutput, callRows, settlementTable, refusalOf}
 use Rattle.credit.specs.Settlement.{settledBy, writtenBy, settlement, written}
 use Rattle.money.specs.Worth.{roundedWorth}
 use Rattle.notices.specs.Hours.{isHour, touches, outside, noHours, noBand, acrossBand, badLength}
@@ -45,6 +46,12 @@ use Rattle.numerals.specs.Decimal.{isDigit, digitsIn, decimal}
 use Rattle.numerals.specs.Fields.{endFrom, digitsFrom, fieldFrom, fieldAt, wordFrom, wordAt, keyedAt}
 use Rattle.numerals.specs.Lines.{fieldBytes, lineBytes, bytesOfLines}
 use Rattle.numerals.specs.Rows.{rowAt}
+use Rattle.power.specs.Credit.{creditOf}
+use Rattle.power.specs.Lines.{powerLineAt}
+use Rattle.power.specs.Rates.{rateOf}
+use Rattle.power.specs.Reduced.{neededOf, sparedBy, eventOf, reductionOf, reducedOf, reducedAt}
+use Rattle.power.specs.Refusals.{shortRoom, wrongReferences, powerCallRows, referenceRows, powerTable, powerRefusal}
+use Rattle.power.specs.Settlement.{powerSettledBy, powerWrittenBy, powerSettlement, powerWritten}
 use Rattle.printing.specs.Sheet.{refusedLines, noticeLine, statementLines}
 use Rattle.schedule.specs.ListCheck.{dayRows, listRows, noticeRows, afterNotice, sofarAt, rowsAt, badList, checkTable, checkAnswer}
 use Rattle.schedule.specs.Rules.{outsidePeriod, onExcludedDay, barredWeekend, startsBefore, sameBand, overLimit}
@@ -57,6 +64,7 @@ use Rattle.figures.specs.EnergyFigures.{sampleDay, sampleBook, sampleLis
 use Rattle.figures.specs.Figure.{Figure}
 use Rattle.figures.specs.Figures.{figures}
 use Rattle.figures.specs.MoneyFigures.{moneyFigures}
+use Rattle.figures.specs.PowerFigures.{powerFigures}
 use Rattle.figures.specs.ScheduleFigures.{mornings, hundredHours, scheduleFigures}
 use Rattle.figures.specs.TextFigures.{bytesIn, sampleInput, sampleOutput, twice, textFigures}
 
@@ -67,8 +75,10 @@ unfolding calendarFigures alsoExcluded alsoFrom easterSunday refuse noEasterYear
     acrossBand badLength startsBefore sameBand overLimit noWinter
     inPeriod firstWeekday weekday weekend energyFigures sampleDay sampleBook sampleList eventAnswer eventRows lineOf askedBy warmUp hoursFrom needed placesOn
     firstFault faultOf energyOf sumOver trimmedAt trimmedOf sumOf smallestOf largestOf sparedOf aboveLimit trialOf referenceDays before freeIn serves
-    masksOf masksTo withHours marksNone hoursMask moneyFigures settlement settledBy written writtenBy refusalOf settlementTable callRows badBook badPrice
-    shortOutput rowsTo lineAt centsAt sumTo eventAt roundedWorth textFigures bytesIn sampleInput sampleOutput twice statementOf textRefusal textTable
+    masksOf masksTo withHours marksNone hoursMask moneyFigures settlement settledBy written writtenBy refusalOf settlementTable callRows bookRows badBook
+    badPrice shortOutput rowsTo lineAt centsAt sumTo eventAt roundedWorth powerFigures powerSettlement powerSettledBy
+    powerWritten powerWrittenBy powerRefusal powerTable powerCallRows shortRoom wrongReferences referenceRows powerLineAt reducedAt reducedOf eventOf sparedBy
+    neededOf run reductionOf creditOf rateOf textFigures bytesIn sampleInput sampleOutput twice statementOf textRefusal textTable
     valueRows toldBytes settledBytes formOf topOf restOf noticesSaid readsFrom readsSaid keyedAt fieldAt fieldFrom digitsFrom endFrom isDigit wordAt wordFrom
     rowAt linesEnd linesSaid eventLineAt headAt readLineAt flatten misplacedIn misplacedBy bookDays bookIn statementLines refusedLines noticeLine
     bytesOfLines lineBytes fieldBytes decimal digitsIn checkCall decoded fourBytesAt fourBytes lentBytes

@@ -5,8 +5,9 @@ use Rattle.figures.specs.CalendarFigures.{calendarFigures}
 use Rattle.figures.specs.EnergyFigures.{energyFigures}
 use Rattle.figures.specs.Figure.{Figure}
 use Rattle.figures.specs.MoneyFigures.{moneyFigures}
+use Rattle.figures.specs.PowerFigures.{powerFigures}
 use Rattle.figures.specs.ScheduleFigures.{scheduleFigures}
 use Rattle.figures.specs.TextFigures.{textFigures}
 
 abbrev pub figures : List Figure
-figures = calendarFigures ++ (scheduleFigures ++ (energyFigures ++ (moneyFigures ++ textFigures)))
+figures = calendarFigures ++ (scheduleFigures ++ (energyFigures ++ (moneyFigures ++ (powerFigures ++ textFigures))))

@@ -3,5 +3,6 @@ pub mod CalendarFigures
 pub mod ScheduleFigures
 pub mod EnergyFigures
 pub mod MoneyFigures
+pub mod PowerFigures
 pub mod TextFigures
 pub mod Figures

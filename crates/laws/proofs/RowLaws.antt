@@ -1,15 +1,18 @@
--- Laws of k rows of w numbers each: how long they are, what number j of row i is, and what a loop that writes a row a turn needs: before the
--- first row, one row more, and all of them.
+-- Laws of k rows of w numbers each: how long they are, what number j of row i is, what a loop that writes a row a turn needs (before the first
+-- row, one row more, and all of them), and whether there is room for them.
 -- Assumes nothing.
-use Prim.Native.Nat.{ℕ, zero, suc, _+_, _*_, _≤_, _<_}
+use Prim.Native.Nat.{ℕ, zero, suc, _+_, _*_, _/_, _≤_, _<_}
+use mathlib.Core.Bool.{Bool, true, false}
 use mathlib.Core.List.{List, [], _∷_, _++_, append-assoc}
 use mathlib.Core.Logic.{⊎-elim}
 use mathlib.Core.Path.{_≡_, refl, sym, ap, _∙_}
-use native.Mathlib.Nat.{eq-or-lt-of-le, le-of-suc-le-suc, le-trans, mul-le-mul-left, mul-zero, mul-suc, one-mul}
+use native.Mathlib.Nat.{eq-or-lt-of-le, le-of-suc-le-suc, le-trans, mul-le-mul-left, mul-comm, mul-zero, mul-suc, one-mul, div-lt-iff-lt-mul, le-div-iff-mul-le}
 use native.Mathlib.Numerals.{add-one}
 use native.Mathlib.Omega.{arith}
+use lib.Dec.{ltb}
 use lib.ListN.{length, getD, take, drop, set, length-append, List·getD-append}
 use lib.Seq.{sets, length-sets, getD-append-add, take-at, drop-at}
+use borrow.Author.Tests.{ltb-true, ltb-false, lt-ltb, le-ltb}
 use Rattle.laws.specs.Rows.{rowsTo, rowsOver, numbersOver}
 use Rattle.laws.proofs.Every.{Every, left, right, joined}
 use Rattle.laws.proofs.Stores.{sets-front}
@@ -130,3 +133,11 @@ module _ {A : Type 0} (P : A → Type 0) (rowAt : ℕ → List A) where
   unfolding rowsTo
   all-rows zero f = tt
   all-rows (suc n) f = joined P (rowsTo rowAt n) (rowAt n) (all-rows n (λ k h. f k (omega arith))) (f n (omega arith))
+
+-- fewer than m rows fit into a room exactly where it is too small for m
+pub room-test : (w room m : ℕ) → 0 < w → ltb (room / w) m ≡ ltb room (w * m)
+room-test w room m some = by (ltb (room / w) m) refl
+  where
+    by : (b : Bool) → ltb (room / w) m ≡ b → ltb (room / w) m ≡ ltb room (w * m)
+    by true e = e ∙ sym (lt-ltb room (w * m) (rw (mul-comm w m) (div-lt-iff-lt-mul some .0 (ltb-true (room / w) m e))))
+    by false e = e ∙ sym (le-ltb room (w * m) (rw (mul-comm w m) (le-div-iff-mul-le some .0 (ltb-false (room / w) m e))))

@@ -1,14 +1,14 @@
--- Laws of tables of refusals: a table accepts exactly when no row is broken, what it refuses is its first broken row, a table in two parts,
--- and numbers and places stay within those of the rows.
+-- Laws of tables of refusals: a table accepts exactly when no row is broken, what it refuses is its first broken row, a table in two parts, of
+-- which the first may be told by a number alone, and numbers and places stay within those of the rows.
 -- Assumes nothing.
 use Prim.Native.Nat.{ℕ, _≤_}
 use mathlib.Core.Bool.{Bool, true, false, true≢false}
 use mathlib.Core.List.{List, [], _∷_, _++_}
-use mathlib.Core.Path.{_≡_, refl, sym, ap}
+use mathlib.Core.Path.{_≡_, refl, sym, ap, _∙_}
 use native.Mathlib.Omega.{arith}
 use lib.Dec.{eqb}
 use lib.ListN.{getD}
-use borrow.Author.Tests.{eqb-true, not-false}
+use borrow.Author.Tests.{eqb-true, ne-eqb, not-false}
 use Rattle.laws.specs.Answer.{Answer, refuse}
 use Rattle.laws.specs.Bounds.{largestNumber, largestPlace}
 use Rattle.laws.specs.Table.{accepted, refusalAt, Row, row, toldBy, firstOf, isRefusal}
@@ -114,6 +114,17 @@ part-stops (r ∷ rows) more e = stops-here r rows more (part-stops rows more) (
 pub part-goes : (rows more : List Row) → NoneBroken rows → firstOf more ≡ firstOf (rows ++ more)
 part-goes [] more t = refl
 part-goes (r ∷ rows) more t = row-goes r (rows ++ more) (t .0) (part-goes rows more (t .1))
+
+-- a part without places that a number tells: the number decides where it is a refusal's, and else no row of the part is broken
+module _ (rows : List Row) (number : ℕ) (e : refusalAt number 0 ≡ firstOf rows) where
+  pub told-stops : (more : List Row) → (number ≡ 0 → ⊥) → refusalAt number 0 ≡ firstOf (rows ++ more)
+  told-stops more f = e ∙ part-stops rows more (rw (← e, ne-eqb number 0 f))
+
+  pub told-none : Numbered rows → number ≡ 0 → NoneBroken rows
+  told-none n z = unrefused-none rows n (rw (← e, z))
+
+  pub told-goes : Numbered rows → number ≡ 0 → (more : List Row) → firstOf more ≡ firstOf (rows ++ more)
+  told-goes n z more = part-goes rows more (told-none n z)
 
 -- number and place of an answer, and those of all rows of a table, are bounded
 abbrev pub Bounded : Answer → Type 0

@@ -1,3 +1,4 @@
+pub mod NearestLaws
 pub mod WorthLaws
 pub mod PriceLaws
 pub mod CentLaws

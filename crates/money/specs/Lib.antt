@@ -2,3 +2,4 @@ pub mod Price
 pub mod Worth
 pub mod Cents
 pub mod Near
+pub mod Nearest

@@ -1,9 +1,10 @@
 -- What energy is worth.
 -- Assumes nothing.
-use Prim.Native.Nat.{ℕ, _+_, _*_, _/_}
+use Prim.Native.Nat.{ℕ, _*_}
 use mathlib.Core.Bool.{cond, _||_}
 use lib.Dec.{ltb}
 use Rattle.laws.specs.Bounds.{largestEnergy}
+use Rattle.money.specs.Nearest.{nearestWhole}
 use Rattle.money.specs.Price.{badPrice}
 
 -- the parts of a cent in which worth is exact (rule 7.2)
@@ -16,7 +17,7 @@ exactWorth p e = e * p
 
 -- rule 7.3: in whole cents, a half being one
 unfoldable pub roundedWorth : ℕ → ℕ → ℕ
-roundedWorth p e = (exactWorth p e + centParts / 2) / centParts
+roundedWorth p e = nearestWhole (exactWorth p e) centParts
 
 -- the most energy that is priced at once: that of a hundred events (rule 7.9)
 abbrev pub mostEnergy : ℕ

@@ -1,12 +1,17 @@
--- The numbers of a notice of a list, and none past the last; and laws of the hours of the first notices together: none of no notice, those of
--- one notice more, and that they only grow.
+-- The numbers of a notice of a list, and none past the last; how many hours a notice has; and laws of the hours of the first notices together:
+-- none of no notice, those of one notice more, and that they only grow.
 -- Assumes nothing.
-use Prim.Native.Nat.{ℕ, suc, _+_, _*_, _≤_, _<_}
+use Prim.Native.Nat.{ℕ, suc, _+_, _-_, _*_, _≤_, _<_}
 use mathlib.Core.List.{List}
-use mathlib.Core.Path.{_≡_}
+use mathlib.Core.Path.{_≡_, refl}
 use borrow.Author.Tests.{lt-ltb, le-ltb}
 use Rattle.laws.proofs.SumLaws.{sum-none, sum-next, sum-grows}
 use Rattle.notices.specs.Notices.{noticeNumbers, countOf, noNotice, noticeFrom, noticeAt, hoursOf, hoursTo}
+use Rattle.notices.specs.declared.notices.Notice.{Notice}
+
+pub hours-are : (n : Notice) → hoursOf n ≡ n .end - n .start
+unfolding hoursOf
+hours-are n = refl
 
 module _ (l : List ℕ) where
   abbrev hoursAt : ℕ → ℕ

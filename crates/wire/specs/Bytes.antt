@@ -48,10 +48,14 @@ eightBytes v =
 abbrev pub bytesTo : List ℕ → ℕ → List ℕ
 bytesTo numbers = rowsTo (λ (k : ℕ). eightBytes (getD numbers k 0))
 
+-- some bytes with those of n numbers at their front, the rest as it was
+abbrev pub bytesOver : List ℕ → ℕ → List ℕ → List ℕ
+bytesOver numbers n bytes = rowsOver 8 (λ (k : ℕ). eightBytes (getD numbers k 0)) n bytes
+
 -- how many numbers are written: as many as there are and have room for all their eight bytes
 abbrev pub writtenCount : List ℕ → List ℕ → ℕ
 writtenCount numbers bytes = min (length numbers) (length bytes / 8)
 
 -- rule 9.4: the bytes once the numbers are written to them; those over are left
 unfoldable pub bytesWritten : List ℕ → List ℕ → List ℕ
-bytesWritten numbers bytes = rowsOver 8 (λ (k : ℕ). eightBytes (getD numbers k 0)) (writtenCount numbers bytes) bytes
+bytesWritten numbers bytes = bytesOver numbers (writtenCount numbers bytes) bytes

@@ -2,12 +2,12 @@
 
 A figure on a layer is a name, a query and the answer. Where it takes several queries, or all
 that a settlement says, it is a name and cases, each built for number and place, and for its
-lines where the call is accepted.
+totals, where it has any, and lines where the call is accepted.
 """
 
 from itertools import product
 
-from cases.calls import LINE_BYTES, Check, Settle
+from cases.calls import LINE_BYTES, Check, Power, Settle
 from cases.checks import ACCEPTED, Case
 from cases.event_books import bare_query, stepped_book, with_readings
 from cases.layers import ListQuery, number_and_place
@@ -260,6 +260,34 @@ SETTLEMENT_FIGURES = (
         (name, [settlement_of(case) for case in cases])
         for name, cases in ALL_LISTS
         if cases[0].query.profile == 1
+    ),
+)
+
+
+def power_case(kw, cents, notice, reading):
+    """One event that draws so many Wh at each of its hours, with a reference that is so many kW
+    above. No other reading is there."""
+    day, first, end = notice
+    book = even_book(2026, MISSING)
+    book[place_of(day, first):place_of(day, end)] = [reading] * (end - first)
+    references = packed([reading + 1_000 * kw])
+    query = Power(2026, packed(book), packed(notice), references, LINE_BYTES)
+    line = (0, 0, 1_000 * kw * (end - first), 12_000 * kw)
+    return Case(query, (*ACCEPTED, 12_000 * kw, 1, cents, line))
+
+
+# Rules 11.9 and 11.10. One event has the effective power of its reduction.
+POWER_FIGURES = (
+    *(
+        (
+            f"one event with {kw} kW: {cents:,} cents",
+            [power_case(kw, cents, (38, 6, 9), 0), power_case(kw, cents, (38, 16, 20), 7_777)],
+        )
+        for kw, cents in ((14, 0), (15, 100_035), (199, 1_327_131), (200, 1_231_200))
+    ),
+    (
+        "medium power, the empty list: accepted, all totals 0",
+        [Case(Power(2026, packed(even_book(2026, MISSING)), b"", b"", 0), (*ACCEPTED, 0, 0, 0))],
     ),
 )
 CHECK_FIGURES = tuple((name, [check_of(case) for case in cases]) for name, cases in ALL_LISTS)

@@ -37,11 +37,16 @@ def drawn_price(source):
     return source.choice((source.choice(EDGE_PRICES), source.randint(1, 1_000_000)))
 
 
+def drawn_spare(source):
+    """How many bytes an output has more than it needs."""
+    return source.choice((0, 0, source.randrange(9), source.randrange(100)))
+
+
 def settle(source, winter, book, price, listed, spare=None):
     """A settlement of these notices with the lent bytes of a book. The output has what it
     needs and some spare bytes."""
     if spare is None:
-        spare = source.choice((0, 0, source.randrange(9), source.randrange(100)))
+        spare = drawn_spare(source)
     length = LINE_BYTES * len(listed) + spare
     lent = packed(flat(listed))
     return Settle(winter, book, price, lent, length, source.randrange(256), drawn_placing(source))

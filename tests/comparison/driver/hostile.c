@@ -1,10 +1,11 @@
 /* Calls the library from C in every awkward way: hostile end|start SEED LONGEST RANDOM.
  *
  * All parts are lent at the guard page behind them (end) or before them (start). LONGEST is the
- * length up to which every length of list, book and output is tried with every other, RANDOM how
- * many lists and books are drawn. Numbers are drawn from SEED. What a call is held to is said in
- * trial.h. It prints how often each answer was given, and ends with exit status 0; or it says
- * what differed, and ends with 1. */
+ * length up to which every length of list, book and output is tried with every other, and of the
+ * medium-power settlement every length of list and references; RANDOM is how many lists and
+ * books are drawn for either settlement. Numbers are drawn from SEED. What a call is held to is
+ * said in trial.h. It prints how often each answer was given, and ends with exit status 0; or it
+ * says what differed, and ends with 1. */
 
 #define _DEFAULT_SOURCE /* mmap's MAP_ANONYMOUS and MAP_NORESERVE */
 
@@ -26,6 +27,7 @@ enum { WINTER = 2026, LEAP_WINTER = 2027, PRICE = 51967 };
 /* Bytes more than a right length: a byte or a number less and more, and for a room some more. */
 static const int BESIDE[] = {0, -1, 1, -4, 4};
 static const int BESIDE_ROOM[] = {0, -1, -8, 1, 40};
+static const int BESIDE_TOTALS[] = {0, -1, 1, -8, 8, -TOTALS_BYTES};
 
 /* A length and so many bytes more, but not below 0. */
 static size_t beside(size_t length, int more)
@@ -49,6 +51,25 @@ static struct lent lent(const uint8_t *bytes, size_t length)
     return (struct lent){bytes, length, draw_distance()};
 }
 
+/* Lengths of outputs, most of them right. */
+
+static size_t draw_out_length(size_t list_length)
+{
+    size_t room = room_for(list_length);
+    size_t longest = OUT_ROOM - FARTHEST;
+    size_t length = draw_once_in(16) ? draw_below((uint32_t)longest)
+                                     : beside(room, BESIDE_ROOM[draw_below(COUNT(BESIDE_ROOM))]);
+    if (draw_once_in(2) || length > longest)
+        length = room < longest ? room : longest;
+    return length;
+}
+
+static size_t draw_totals_length(void)
+{
+    int more = draw_once_in(8) ? BESIDE_TOTALS[draw_below(COUNT(BESIDE_TOTALS))] : 0;
+    return beside(TOTALS_BYTES, more);
+}
+
 static struct trial check_of(uint32_t winter, uint32_t profile, struct lent list)
 {
     return (struct trial){.function = CHECK, .winter = winter, .number = profile, .list = list};
@@ -63,6 +84,19 @@ static struct trial settle_of(uint32_t winter, uint32_t price, struct lent list)
                           .list = list,
                           .book = lent(book_of(SOUND), book_length(winter)),
                           .out = lent(output_of(NOISE), room_for(list.length))};
+}
+
+/* With sound references, the winter's sound book and just the room in both outputs. */
+static struct trial power_of(uint32_t winter, struct lent list)
+{
+    size_t references = list.length / NOTICE_BYTES * NUMBER_BYTES;
+    return (struct trial){.function = POWER,
+                          .winter = winter,
+                          .list = list,
+                          .references = lent(references_of(SOUND), references),
+                          .book = lent(book_of(SOUND), book_length(winter)),
+                          .out = lent(output_of(NOISE), room_for(list.length)),
+                          .totals = lent(output_of(NOISE), TOTALS_BYTES)};
 }
 
 /* The groups of calls. */
@@ -94,6 +128,33 @@ static void try_books(struct trial trial, size_t longest)
     }
 }
 
+/* Every length of the totals that matters with every length of the output that does. */
+static void try_totals(struct trial trial)
+{
+    for (size_t out = 0; out < COUNT(BESIDE_ROOM); out++)
+        for (size_t totals = 0; totals < COUNT(BESIDE_TOTALS); totals++) {
+            size_t length = beside(room_for(trial.list.length), BESIDE_ROOM[out]);
+            trial.out = lent(output_of(draw_below(KINDS)), length);
+            length = beside(TOTALS_BYTES, BESIDE_TOTALS[totals]);
+            trial.totals = lent(output_of(draw_below(KINDS)), length);
+            try_call(&trial);
+        }
+}
+
+/* Every length of the references up to the longest, with wrong books too. */
+static void try_references(struct trial trial, size_t longest)
+{
+    enum kind kind = draw_once_in(2) ? SOUND : draw_below(KINDS);
+    for (size_t length = 0; length <= longest; length++) {
+        trial.references = lent(references_of(kind), length);
+        try_totals(trial);
+    }
+    for (size_t i = 0; i < COUNT(BESIDE); i++) {
+        trial.book = lent(book_of(SOUND), beside(book_length(trial.winter), BESIDE[i]));
+        try_call(&trial);
+    }
+}
+
 static void try_lengths(size_t longest)
 {
     for (size_t length = 0; length <= longest; length++) {
@@ -102,6 +163,7 @@ static void try_lengths(size_t longest)
         struct trial check = check_of(winter, 1 + draw_below(2), list);
         try_call(&check);
         try_books(settle_of(winter, PRICE, list), longest);
+        try_references(power_of(winter, lent(power_list(), length)), longest);
     }
 }
 
@@ -120,18 +182,46 @@ static void try_long_list(uint32_t winter, size_t list_length)
         }
 }
 
+/* The same for the medium-power settlement, and lengths at both sides of the references' own. */
+static void try_long_power_list(uint32_t winter, size_t list_length)
+{
+    struct lent list = lent(power_list(), list_length);
+    for (size_t book = 0; book < COUNT(BESIDE); book++)
+        for (size_t references = 0; references < COUNT(BESIDE); references++) {
+            struct trial power = power_of(winter, list);
+            power.book.length = beside(power.book.length, BESIDE[book]);
+            power.references.length = beside(power.references.length, BESIDE[references]);
+            power.out.length = draw_out_length(list_length);
+            power.totals.length = draw_totals_length();
+            try_call(&power);
+        }
+}
+
 static void try_long_lists(void)
 {
-    static const size_t COUNTS[] = {1, 2, 25, 99, 100, 101, 102, 200};
+    static const size_t COUNTS[] = {1, 2, 25, 33, 34, 99, 100, 101, 102, 200};
     for (size_t i = 0; i < COUNT(COUNTS); i++)
         for (size_t more = 0; more < COUNT(BESIDE); more++) {
             size_t length = beside(COUNTS[i] * NOTICE_BYTES, BESIDE[more]);
             try_long_list(WINTER, length);
             try_long_list(LEAP_WINTER, length);
+            try_long_power_list(more % 2 == 0 ? WINTER : LEAP_WINTER, length);
         }
 }
 
 /* Each part at every distance from its guard page, an accepted call and a refused one. */
+
+/* Of the medium-power settlement list, book and output lie at any. */
+static void try_power_distances(size_t places)
+{
+    struct trial power = power_of(WINTER, lent(power_list(), 3 * NOTICE_BYTES));
+    power.references.distance = places % 8;
+    power.totals.distance = places / 8 % 8;
+    try_call(&power);
+    power.references.bytes = references_of(NOISE);
+    try_call(&power);
+}
+
 static void try_distances(void)
 {
     for (size_t places = 0; places < 8 * 8 * 8; places++) {
@@ -144,6 +234,7 @@ static void try_distances(void)
         try_call(&settle);
         struct trial check = check_of(WINTER, 1 + places / 64 % 2, settle.list);
         try_call(&check);
+        try_power_distances(places);
     }
 }
 
@@ -161,6 +252,14 @@ static void try_numbers_with(uint32_t winter, enum kind of_list, enum kind of_bo
         settle.out.bytes = output_of((of_list + of_book + i) % KINDS);
         settle.out.length += LINE_BYTES;
         try_call(&settle);
+    }
+    for (enum kind of_references = 0; of_references < KINDS; of_references++) {
+        struct trial power = power_of(winter, list);
+        power.book.bytes = book_of(of_book);
+        power.list.bytes = of_list == SOUND ? power_list() : list.bytes;
+        power.references.bytes = references_of(of_references);
+        power.totals.length += LINE_BYTES;
+        try_call(&power);
     }
 }
 
@@ -206,12 +305,50 @@ static void try_far_length(uint8_t *bytes, size_t far)
             say_difference("a byte behind the last line of such an output was changed");
 }
 
+/* The medium-power settlement with these parts, where they lie. */
+static uint32_t power_with(struct lent book, struct lent list, struct lent references, uint8_t *out,
+                           size_t out_length, uint8_t *totals, size_t totals_length)
+{
+    return ibisladder_power(WINTER, book.bytes, book.length, list.bytes, list.length,
+                            references.bytes, references.length, out, out_length, totals,
+                            totals_length);
+}
+
+static void try_far_power(uint8_t *bytes, size_t far)
+{
+    struct lent book = {book_of(SOUND), book_length(WINTER), 0};
+    struct lent list = {power_list(), NOTICE_BYTES, 0};
+    struct lent references = {references_of(SOUND), NUMBER_BYTES, 0};
+    struct lent far_book = {bytes, far + book.length, 0}, far_list = {bytes, far + list.length, 0};
+    struct lent far_references = {bytes, far + references.length, 0};
+    uint8_t out[LINE_BYTES], totals[TOTALS_BYTES];
+
+    hold_number(POWER, power_with(far_book, list, references, out, sizeof out, totals,
+                                  sizeof totals), IBISLADDER_REFUSED_BOOK);
+    hold_number(POWER, power_with(book, far_list, references, out, sizeof out, totals,
+                                  sizeof totals), IBISLADDER_REFUSED_LIST);
+    hold_number(POWER, power_with(book, list, far_references, out, sizeof out, totals,
+                                  sizeof totals), REFUSED_REFERENCES);
+    hold_number(POWER, power_with(book, list, references, bytes, far, totals, sizeof totals),
+                IBISLADDER_ACCEPTED);
+    hold_number(POWER, power_with(book, list, references, out, sizeof out, bytes + LINE_BYTES,
+                                  far), IBISLADDER_ACCEPTED);
+    if (memcmp(bytes, out, sizeof out) != 0
+        || memcmp(bytes + LINE_BYTES, totals, sizeof totals) != 0)
+        say_difference("an output with a length past 32 bits got other numbers");
+    for (size_t i = LINE_BYTES + TOTALS_BYTES; i < OUT_ROOM; i++)
+        if (bytes[i] != 0)
+            say_difference("a byte behind the totals of such a length was changed");
+}
+
 /* Up to 35 bits: then the numbers of 64 bits are more than 32 bits count, too. */
 static void try_far_lengths_in(void *bytes)
 {
     for (unsigned bits = 32; bits <= 35; bits++) {
         memset(bytes, 0, OUT_ROOM);
         try_far_length(bytes, (size_t)1 << bits);
+        memset(bytes, 0, OUT_ROOM);
+        try_far_power(bytes, (size_t)1 << bits);
     }
 }
 
@@ -244,24 +381,14 @@ static size_t draw_book_length(uint32_t winter)
     }
 }
 
-static size_t draw_out_length(size_t list_length)
+/* A list or references may lie in the book, since neither is written to. */
+static void put_in_book(struct trial *trial, struct lent *part, uint8_t *book)
 {
-    size_t room = room_for(list_length);
-    size_t longest = OUT_ROOM - FARTHEST;
-    size_t length = draw_once_in(16) ? draw_below((uint32_t)longest)
-                                     : beside(room, BESIDE_ROOM[draw_below(COUNT(BESIDE_ROOM))]);
-    if (draw_once_in(2) || length > longest)
-        length = room < longest ? room : longest;
-    return length;
-}
-
-/* A list may lie in the book, since neither is written to. */
-static void put_in_book(struct trial *trial, uint8_t *book)
-{
-    size_t first = draw_below((uint32_t)(trial->book.length - trial->list.length + 1));
-    memcpy(book + first, trial->list.bytes, trial->list.length);
-    trial->list.bytes = book + first;
-    trial->list_in_book = true;
+    size_t first = draw_below((uint32_t)(trial->book.length - part->length + 1));
+    memcpy(book + first, part->bytes, part->length);
+    part->bytes = book + first;
+    trial->list_in_book = part == &trial->list;
+    trial->references_in_book = part == &trial->references;
 }
 
 static void try_drawn(void)
@@ -279,8 +406,34 @@ static void try_drawn(void)
     settle.book = lent(book, draw_book_length(winter));
     settle.out = lent(output_of(draw_below(KINDS)), draw_out_length(length));
     if (settle.book.length >= length && draw_once_in(8))
-        put_in_book(&settle, book);
+        put_in_book(&settle, &settle.list, book);
     try_call(&settle);
+}
+
+/* As many bytes as there should be, mostly. */
+static size_t draw_references_length(size_t list_length)
+{
+    size_t right = list_length / NOTICE_BYTES * NUMBER_BYTES;
+    return draw_once_in(16) ? beside(right, BESIDE[draw_below(COUNT(BESIDE))]) : right;
+}
+
+static void try_drawn_power(void)
+{
+    static uint8_t list[LIST_ROOM], references[REFERENCES_ROOM], book[BOOK_ROOM];
+    uint32_t winter = draw_winter();
+    size_t length = draw_power_list(list, winter);
+    draw_references(references);
+    draw_book(book);
+
+    struct trial power = power_of(winter, lent(list, length));
+    power.references = lent(references, draw_references_length(length));
+    power.book = lent(book, draw_book_length(winter));
+    power.out = lent(output_of(draw_below(KINDS)), draw_out_length(length));
+    power.totals = lent(output_of(draw_below(KINDS)), draw_totals_length());
+    struct lent *part = draw_once_in(2) ? &power.list : &power.references;
+    if (power.book.length >= part->length && draw_once_in(8))
+        put_in_book(&power, part, book);
+    try_call(&power);
 }
 
 static enum side side_named(const char *name)
@@ -302,8 +455,10 @@ int main(int count, char **words)
     try_distances();
     try_numbers();
     try_far_lengths();
-    for (unsigned long left = strtoul(words[4], NULL, 10); left > 0; left--)
+    for (unsigned long left = strtoul(words[4], NULL, 10); left > 0; left--) {
         try_drawn();
+        try_drawn_power();
+    }
     print_counts();
     return fflush(stdout) == 0 ? EXIT_SUCCESS : EXIT_FAILURE;
 }

@@ -242,15 +242,22 @@ def fault(reading):
     return 22 if reading > HIGHEST_READING else 0
 
 
+def first_fault(readings):
+    """Code and place by the first of these readings that is at fault, 0 and 0 if none is. They
+    stand by (day, hour), in the order in which they are needed."""
+    faults = ((fault(reading), place_of(*pair)) for pair, reading in readings.items())
+    return next((found for found in faults if found[0]), (0, 0))
+
+
 def event_answer(event, references, readings_of):
     """The answer to an event; `readings_of` gives the readings at pairs (day, hour), which are
     looked at only where there are enough reference days. The first fault among them decides."""
     if len(references) < REFERENCE_DAYS:
         return Answer(0, code=20)
     readings = readings_of(needed_hours(event, references))
-    for pair, reading in readings.items():
-        if fault(reading):
-            return Answer(0, fault(reading), place_of(*pair))
+    code, place = first_fault(readings)
+    if code:
+        return Answer(0, code, place)
     return Answer(0, spared=spared_energy(event, references, readings))
 
 

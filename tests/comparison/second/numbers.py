@@ -24,6 +24,13 @@ SETTLEMENT = {
     "line": (0, 21, 22),
 }
 
+# The medium-power settlement's own rules, and those of the list check under profile 2. It looks at
+# no other day, so no line has code 20.
+POWER = {
+    "power": (0, 1, 2, 4, 6, 40, 41, 10, 11, 12, 13, 26, 27, 14, 15, 18),
+    "line": (0, 21, 22),
+}
+
 # A text's book always has the right length and its output the room it needs, so 2 and 6 are
 # never given.
 TEXT = {
@@ -34,7 +41,7 @@ TEXT = {
 CODES = EVENT["code"]
 REFUSALS = {
     number
-    for calls in (LIST_CHECK, EVENT, SETTLEMENT, TEXT)
+    for calls in (LIST_CHECK, EVENT, SETTLEMENT, POWER, TEXT)
     for call, numbers in calls.items()
     for number in numbers
     if call not in ("code", "line") and number > 0

@@ -4,7 +4,8 @@
 use native.Mathlib.Omega.{arith}
 use lib.ListN.{length-take}
 use borrow.Author.Needs.{needs}
-use Rattle.boundary.proofs.SettleLaws.{front-fits, front-is, front-count, lines-room}
+use Rattle.boundary.proofs.Fronts.{front-fits, front-is, front-count, lines-room}
+use Rattle.credit.specs.Lines.{lineNumbers}
 use Rattle.boundary.proofs.settle_call.settle_whole.Statement.{statement}
 use Rattle.boundary.proofs.settle_call.settle_whole.Tie as tie
 
@@ -78,7 +79,7 @@ settle-numbers-requires c κs =
     let start = counted .before .before .before .before in
     let count = front-count (start .args .list .now) _ _ (omega arith) (list-read .read-numbers2 .ensures) in
     let lines = counted .count-in .ensures in
-    record { just = lines-room _ _ _ _ count lines (omega (arith, lines)); bytes-fit = simp length-take (omega (arith, lines)) }
+    record { just = lines-room lineNumbers _ _ _ _ count lines (omega (arith, lines)); bytes-fit = simp length-take (omega (arith, lines)) }
 
 same-length : tie.Need-same-length
 same-length c = search needs

@@ -1,0 +1,12 @@
+pub mod CallGuards
+pub mod CallLaws
+pub mod Carried
+pub mod CreditLaws
+pub mod EventLaws
+pub mod Exact
+pub mod HourShares
+pub mod LineLaws
+pub mod RateLaws
+pub mod ReferenceLaws
+pub mod RefusalLaws
+pub mod SettlementLaws
