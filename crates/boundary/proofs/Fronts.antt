@@ -1,20 +1,27 @@
 -- Laws of numbers that are read from bytes into the front of longer room, and of room for lines at the front of more.
 -- Assumes nothing.
-use Prim.Native.Nat.{ℕ, _*_, _/_, _≤_}
+use Prim.Native.Nat.{ℕ, _*_, _/_, _%_, _≤_}
 use mathlib.Core.List.{List, _++_}
 use mathlib.Core.Path.{_≡_, sym, ap, _∙_}
 use native.Mathlib.Omega.{arith}
 use lib.ListN.{length, take, drop, length-append}
 use lib.Seq.{take-at, length-take-le}
 use Rattle.notices.specs.Notices.{countIn}
+use Rattle.wire.proofs.DecodedLaws.{decoded-whole}
 use Rattle.wire.proofs.ReadLaws.{numbers-long, read-whole, read-long}
 use Rattle.wire.specs.Bytes.{numbersRead}
+use Rattle.wire.specs.Decoded.{decoded}
 use Rattle.boundary.specs.Whole.{wholeNumbers}
 
 -- what was read with just the room for it
 pub read-is : (bytes numbers : List ℕ) → length numbers ≡ length bytes / 4 → numbersRead bytes numbers ≡ wholeNumbers bytes
 unfolding wholeNumbers
 read-is bytes numbers e = read-whole bytes numbers e
+
+-- bytes of whole numbers stand for these
+pub decoded-is : (bytes : List ℕ) → length bytes % 4 ≡ 0 → decoded bytes ≡ wholeNumbers bytes
+unfolding wholeNumbers
+decoded-is bytes whole = decoded-whole bytes whole
 
 pub whole-long : (bytes : List ℕ) → length (wholeNumbers bytes) ≡ length bytes / 4
 unfolding wholeNumbers

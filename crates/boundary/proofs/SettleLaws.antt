@@ -16,13 +16,13 @@ use Rattle.credit.specs.Refusals.{callRows}
 use Rattle.credit.specs.Settlement.{refusedWith, settlement, written}
 use Rattle.credit.specs.declared.call.Settlement.{Settlement}
 use Rattle.notices.specs.Notices.{countOf}
-use Rattle.wire.proofs.DecodedLaws.{decoded-long, decoded-whole}
+use Rattle.wire.proofs.DecodedLaws.{decoded-long}
 use Rattle.wire.proofs.WriteLaws.{written-whole}
 use Rattle.wire.specs.Bytes.{bytesWritten}
 use Rattle.wire.specs.Decoded.{numberCount, decoded}
 use Rattle.boundary.specs.Calls.{packed, packedSettlement, linesOver, settledOver, settleCall, settleBytes}
 use Rattle.boundary.specs.Whole.{JustRoom, wholeNumbers, wholeCall, wholeBytes, SettledBytes}
-use Rattle.boundary.proofs.Fronts.{whole-long}
+use Rattle.boundary.proofs.Fronts.{decoded-is, whole-long}
 use Rattle.boundary.proofs.RightLengths.{RightLengths, right-lengths}
 
 -- the call's refusal: number 0, or refused by winter, price or lengths
@@ -49,9 +49,8 @@ module _ (w p : ℕ) (book list out : List ℕ) (readings numbers number : ℕ) 
 module _ (w p : ℕ) (book list out : List ℕ) (r : RightLengths (length book) (length list) (length out)) where
   room-is : settlement w (wholeNumbers book) p (wholeNumbers list) (lineNumbers * countOf (wholeNumbers list))
       ≡ settlement w (decoded book) p (decoded list) (length out / 8)
-  unfolding wholeNumbers
   room-is =
-      rw (decoded-whole book (r .book-whole), decoded-whole list (r .list-whole))
+      rw (decoded-is book (r .book-whole), decoded-is list (r .list-whole))
       (settled-room w p (wholeNumbers book) (wholeNumbers list) (lineNumbers * countOf (wholeNumbers list)) (length out / 8) (omega arith)
       (rw (whole-long list) (r .lines-fit)))
 
@@ -60,8 +59,8 @@ module _ (w p : ℕ) (book list out : List ℕ) (r : RightLengths (length book) 
   whole-call = ap packedSettlement room-is
 
   whole-bytes : wholeBytes w (wholeNumbers book) p (wholeNumbers list) out ≡ settleBytes w book p list out
-  unfolding wholeBytes settleBytes settledOver wholeNumbers
-  whole-bytes = rw (room-is, decoded-whole book (r .book-whole), decoded-whole list (r .list-whole))
+  unfolding wholeBytes settleBytes settledOver
+  whole-bytes = rw (room-is, decoded-is book (r .book-whole), decoded-is list (r .list-whole))
 
   pub whole-settles : {answer : ℕ} {after : List ℕ} → SettledBytes w (wholeNumbers book) p (wholeNumbers list) out answer after
       → (answer ≡ settleCall w book p list (length out)) × (after ≡ settleBytes w book p list out)

@@ -1,4 +1,2 @@
 pub mod Calls
 pub mod Whole
-pub mod PowerCalls
-pub mod PowerWhole

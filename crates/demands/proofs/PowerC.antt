@@ -7,8 +7,8 @@ use mathlib.Core.Logic.{_↔_}
 use mathlib.Core.Path.{_≡_, refl, sym, ap, _∙_}
 use native.Mathlib.Omega.{arith}
 use lib.ListN.{length, getD, drop}
-use Rattle.boundary.proofs.PowerTold.{power-told, power-accepted, lines-unwritten, totals-unwritten, lines-written, totals-written}
-use Rattle.boundary.specs.PowerCalls.{totalsIn, powerSettled, powerCall, powerBytes, totalBytes}
+use Rattle.power_boundary.proofs.PowerTold.{power-told, power-accepted, lines-unwritten, totals-unwritten, lines-written, totals-written}
+use Rattle.power_boundary.specs.PowerCalls.{totalsIn, powerSettled, powerCall, powerBytes, totalBytes}
 use Rattle.laws.proofs.Tells.{Tells}
 use Rattle.laws.specs.Sums.{sumTo}
 use Rattle.notices.specs.Notices.{countOf, noticeAt}

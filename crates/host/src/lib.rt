@@ -2,7 +2,7 @@
 ghost use mathlib.Core.Path.{_≡_};
 ghost use lib.ListN.{length};
 ghost use Rattle.boundary.specs.Calls.{checkCall, settleCall, settleBytes};
-ghost use Rattle.boundary.specs.PowerCalls.{powerCall, powerBytes, totalBytes};
+ghost use Rattle.power_boundary.specs.PowerCalls.{powerCall, powerBytes, totalBytes};
 
 // Whether a list of notices stands under a profile in a winter: 0, or number and place in one (rule 9.5).
 #[no_mangle]
@@ -44,5 +44,5 @@ pub extern "C" fn ibisladder_power(
     ensures { λ _. ⌜ now (totals .exit) ≡ totalBytes winter (now (book .entry)) (now (list .entry)) (now (references .entry)) (now (out .entry))
         (now (totals .entry)) ⌝ }
 {
-    boundary::power_bytes(winter, book, list, references, out, totals)
+    power_boundary::power_bytes(winter, book, list, references, out, totals)
 }

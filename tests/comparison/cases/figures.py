@@ -16,6 +16,7 @@ from cases.settlement_books import Saving, even_book, level_book, packed, warm_u
 from second import winters
 from second.energies import MISSING, place_of
 from second.notices import PROFILES
+from second.settlements import OUTPUT_BYTES
 
 # Of the calendar: what one call must say to the query.
 DAY_FIGURES = (
@@ -264,24 +265,31 @@ SETTLEMENT_FIGURES = (
 )
 
 
-def power_case(kw, cents, notice, reading):
-    """One event that draws so many Wh at each of its hours, with a reference that is so many kW
-    above. No other reading is there."""
+def power_case(watts, cents, notice, reading):
+    """One event that draws so many Wh at each of its hours, with a reference that is so many W
+    above. No other reading is there, and the output has a number more than the line."""
     day, first, end = notice
     book = even_book(2026, MISSING)
     book[place_of(day, first):place_of(day, end)] = [reading] * (end - first)
-    references = packed([reading + 1_000 * kw])
-    query = Power(2026, packed(book), packed(notice), references, LINE_BYTES)
-    line = (0, 0, 1_000 * kw * (end - first), 12_000 * kw)
-    return Case(query, (*ACCEPTED, 12_000 * kw, 1, cents, line))
+    references = packed([reading + watts])
+    query = Power(2026, packed(book), packed(notice), references, LINE_BYTES + OUTPUT_BYTES)
+    line = (0, 0, watts * (end - first), 12 * watts)
+    return Case(query, (*ACCEPTED, 12 * watts, 1, cents, line))
 
 
-# Rules 11.9 and 11.10. One event has the effective power of its reduction.
+# Rules 11.6, 11.9 and 11.10. One event has the effective power of its reduction.
 POWER_FIGURES = (
+    (
+        "medium power, the sample's event by 2,500 W: 4,500 Wh and 18,000 twelfths of a W",
+        [power_case(1_500, 0, (38, 6, 9), 1_000)],
+    ),
     *(
         (
             f"one event with {kw} kW: {cents:,} cents",
-            [power_case(kw, cents, (38, 6, 9), 0), power_case(kw, cents, (38, 16, 20), 7_777)],
+            [
+                power_case(1_000 * kw, cents, (38, 6, 9), 0),
+                power_case(1_000 * kw, cents, (38, 16, 20), 7_777),
+            ],
         )
         for kw, cents in ((14, 0), (15, 100_035), (199, 1_327_131), (200, 1_231_200))
     ),

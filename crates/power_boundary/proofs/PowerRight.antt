@@ -9,7 +9,7 @@ use Rattle.power.proofs.CallLaws.{RightPower}
 use Rattle.power.specs.Lines.{powerLineNumbers}
 use Rattle.wire.proofs.DecodedLaws.{whole-numbers}
 use Rattle.wire.specs.Decoded.{numberCount}
-use Rattle.boundary.specs.PowerWhole.{PowerLengths}
+use Rattle.power_boundary.specs.PowerWhole.{PowerLengths}
 
 pub record PowerRight (book list references out totals : ℕ) : Type 0 where
   pub book-whole : book % 4 ≡ 0

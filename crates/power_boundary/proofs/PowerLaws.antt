@@ -16,17 +16,17 @@ use Rattle.power.specs.Reduced.{reducedAt}
 use Rattle.power.specs.Refusals.{totalNumbers, powerCallRows}
 use Rattle.power.specs.Settlement.{powerRefusedWith, powerSettlement, powerWritten}
 use Rattle.power.specs.declared.call.PowerSettlement.{PowerSettlement}
-use Rattle.wire.proofs.DecodedLaws.{decoded-long, decoded-whole}
+use Rattle.wire.proofs.DecodedLaws.{decoded-long}
 use Rattle.wire.proofs.WriteLaws.{written-whole}
 use Rattle.wire.specs.Bytes.{bytesWritten}
 use Rattle.wire.specs.Decoded.{numberCount, decoded}
 use Rattle.boundary.specs.Calls.{packed}
-use Rattle.boundary.specs.PowerCalls.{packedPower, powerLinesOver, totalsIn, totalsOver, powerOver, powerTotals, powerSettled}
-use Rattle.boundary.specs.PowerCalls.{powerCall, powerBytes, totalBytes}
-use Rattle.boundary.specs.PowerWhole.{PowerRoom, wholePower, PowerSettled}
+use Rattle.power_boundary.specs.PowerCalls.{packedPower, powerLinesOver, totalsIn, totalsOver, powerOver, powerTotals, powerSettled}
+use Rattle.power_boundary.specs.PowerCalls.{powerCall, powerBytes, totalBytes}
+use Rattle.power_boundary.specs.PowerWhole.{PowerRoom, wholePower, PowerSettled}
 use Rattle.boundary.specs.Whole.{wholeNumbers}
-use Rattle.boundary.proofs.Fronts.{whole-long}
-use Rattle.boundary.proofs.PowerRight.{PowerRight, power-right}
+use Rattle.boundary.proofs.Fronts.{decoded-is, whole-long}
+use Rattle.power_boundary.proofs.PowerRight.{PowerRight, power-right}
 
 -- what is left where a settlement has been refused
 module _ (s : PowerSettlement) (f : s .number ≡ 0 → ⊥) where
@@ -88,19 +88,18 @@ module _ (w : ℕ) (book list references out totals : List ℕ)
     (r : PowerRight (length book) (length list) (length references) (length out) (length totals)) where
   whole-is : wholePower w (wholeNumbers book) (wholeNumbers list) (wholeNumbers references)
       ≡ powerSettled w book list references (length out) (length totals)
-  unfolding wholePower wholeNumbers
+  unfolding wholePower
   whole-is =
-      rw (decoded-whole book (r .book-whole), decoded-whole list (r .list-whole), decoded-whole references (r .references-whole))
+      rw (decoded-is book (r .book-whole), decoded-is list (r .list-whole), decoded-is references (r .references-whole))
       (settled-room w (wholeNumbers book) (wholeNumbers list) (wholeNumbers references) (powerLineNumbers * countOf (wholeNumbers list)) totalNumbers
       (length out / 8) (length totals / 8) (omega arith) (rw (whole-long list) (r .lines-fit)) (omega arith) (omega (arith, r .lengths .totals-for)))
 
   pub whole-power : {answer : ℕ} {after after-totals : List ℕ}
       → PowerSettled w (wholeNumbers book) (wholeNumbers list) (wholeNumbers references) out totals answer after after-totals
       → PowerCalled w book list references out totals answer after after-totals
-  unfolding wholeNumbers
   whole-power s =
       called-by w book list references out totals (wholePower w (wholeNumbers book) (wholeNumbers list) (wholeNumbers references)) whole-is (s .answer-is)
-      (rw (decoded-whole book (r .book-whole), decoded-whole list (r .list-whole), decoded-whole references (r .references-whole)) (s .bytes-are))
+      (rw (decoded-is book (r .book-whole), decoded-is list (r .list-whole), decoded-is references (r .references-whole)) (s .bytes-are))
       (s .totals-are)
 
 -- the settlement s of numbers into lines, for which there is just the room

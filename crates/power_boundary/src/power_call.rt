@@ -1,10 +1,20 @@
 // The medium-power settlement on bytes. The numbers are held in arrays of its own: the book's, the list's, the references' and the lines'.
 ghost use mathlib.Core.Path.{_≡_};
+ghost use Prim.Native.Nat.{_≤_};
 ghost use lib.ListN.{length};
-ghost use Rattle.boundary.specs.PowerCalls.{powerCall, powerBytes, totalBytes};
-ghost use Rattle.boundary.specs.PowerWhole.{PowerLengths, PowerRoom, PowerSettled};
+ghost use Rattle.laws.specs.Bounds.{largestNumber, largestPlace};
+ghost use Rattle.power_boundary.specs.PowerCalls.{powerCall, powerBytes, totalBytes};
+ghost use Rattle.power_boundary.specs.PowerWhole.{PowerLengths, PowerRoom, PowerSettled};
+ghost use Rattle.boundary.specs.Calls.{packed};
 ghost use Rattle.boundary.specs.Whole.{wholeNumbers};
-use crate::packing::pack;
+
+// Number and place in one number: rule 9.5.
+fn pack(number: u32, place: u32) -> u32
+    requires { ⌜ (number ≤ largestNumber) × (place ≤ largestPlace) ⌝ }
+    ensures { λ r. ⌜ r ≡ packed number place ⌝ }
+{
+    65536 * number + place
+}
 
 // Settles numbers into lines, for which there is just the room, and writes the bytes of the lines and of the totals.
 fn power_numbers(

@@ -5,9 +5,9 @@ use native.Mathlib.Omega.{arith}
 use lib.ListN.{length-take}
 use borrow.Author.Needs.{needs}
 use Rattle.power.specs.Lines.{powerLineNumbers}
 use Rattle.boundary.proofs.Fronts.{front-fits, front-is, front-count, lines-room}
-use Rattle.boundary.proofs.power_call.power_whole.Statement.{statement}
-use Rattle.boundary.proofs.power_call.power_whole.Tie as tie
+use Rattle.power_boundary.proofs.power_call.power_whole.Statement.{statement}
+use Rattle.power_boundary.proofs.power_call.power_whole.Tie as tie
 
 -- the call, from where the book is read; where the book is read, from where the list is; and where the list is, from where the references are
 abbrev called : tie.After-read-numbers → tie.Start

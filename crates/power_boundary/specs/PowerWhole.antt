@@ -10,7 +10,7 @@ use Rattle.power.specs.Lines.{powerLineNumbers}
 use Rattle.power.specs.Refusals.{totalNumbers}
 use Rattle.power.specs.Settlement.{powerSettlement}
 use Rattle.power.specs.declared.call.PowerSettlement.{PowerSettlement}
-use Rattle.boundary.specs.PowerCalls.{packedPower, powerOver, powerTotals}
+use Rattle.power_boundary.specs.PowerCalls.{packedPower, powerOver, powerTotals}
 
 -- there is room for the numbers, and for lines and totals in the outputs
 pub record PowerLengths (book list references out totals : ℕ) : Type 0 where

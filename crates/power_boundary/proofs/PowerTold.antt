@@ -9,9 +9,9 @@ use lib.ListN.{length}
 use Rattle.power.proofs.SettlementLaws.{number-is, settled-accepted, settlement-bounded}
 use Rattle.power.specs.declared.call.PowerSettlement.{PowerSettlement}
 use Rattle.wire.specs.Decoded.{decoded}
-use Rattle.boundary.specs.PowerCalls.{powerLinesOver, totalsOver, powerSettled, powerCall, powerBytes, totalBytes}
-use Rattle.boundary.proofs.PowerLaws.{over-refused, totals-refused, over-accepted, totals-accepted}
+use Rattle.power_boundary.specs.PowerCalls.{powerLinesOver, totalsOver, powerSettled, powerCall, powerBytes, totalBytes}
+use Rattle.power_boundary.proofs.PowerLaws.{over-refused, totals-refused, over-accepted, totals-accepted}
 use Rattle.boundary.proofs.Told.{packed-told}
 
 module _ (w : ℕ) (book list references out totals : List ℕ) where
   abbrev settled : PowerSettlement

@@ -4,9 +4,9 @@ use mathlib.Core.Path.{_∙_}
 use native.Mathlib.Omega.{arith}
 use borrow.Author.Needs.{needs}
 use Rattle.power.proofs.CallLaws.{call-bounded}
-use Rattle.boundary.proofs.PowerLaws.{refused-power, right-power, whole-power}
-use Rattle.boundary.proofs.power_call.power_bytes.Statement.{statement}
-use Rattle.boundary.proofs.power_call.power_bytes.Tie as tie
+use Rattle.power_boundary.proofs.PowerLaws.{refused-power, right-power, whole-power}
+use Rattle.power_boundary.proofs.power_call.power_bytes.Statement.{statement}
+use Rattle.power_boundary.proofs.power_call.power_bytes.Tie as tie
 
 -- the call, from where its lengths are judged
 abbrev called : tie.After-call-refusal → tie.Start

@@ -2,9 +2,9 @@
 -- Assumes nothing.
 use native.Mathlib.Omega.{arith}
 use borrow.Author.Needs.{needs}
-use Rattle.boundary.proofs.PowerLaws.{just-bounded, just-refused, just-settled}
-use Rattle.boundary.proofs.power_call.power_numbers.Statement.{statement}
-use Rattle.boundary.proofs.power_call.power_numbers.Tie as tie
+use Rattle.power_boundary.proofs.PowerLaws.{just-bounded, just-refused, just-settled}
+use Rattle.power_boundary.proofs.power_call.power_numbers.Statement.{statement}
+use Rattle.power_boundary.proofs.power_call.power_numbers.Tie as tie
 
 -- the call, from where the numbers are settled
 abbrev called : tie.After-settle → tie.Start

@@ -1,0 +1,3 @@
+pub mod PowerLaws
+pub mod PowerRight
+pub mod PowerTold

@@ -1,0 +1,2 @@
+pub mod PowerCalls
+pub mod PowerWhole
