@@ -11,8 +11,8 @@ use crate::lines::put_lines;
 use crate::rates::credit_of;
 use crate::refusals::refusal_of;
 
-// What a medium-power settlement answers: the refusal number and place, 0 if it is accepted; and the sum of the reductions, the count of
-// settled events and the credit in cents, 0 if it is refused.
+// What a medium-power settlement answers: the refusal number and place, 0 if it is accepted; and all reductions added up, how many events
+// are settled and the cents of the credit, 0 if it is refused.
 pub struct PowerSettlement {
     pub number: u32,
     pub place: u32,
