@@ -84,7 +84,8 @@ add-settled c =
     let references = start .args .references .now in
     let is = event-at book list references (loop .loop .k) _ _ _ refl (reduced .before .notice-at .ensures) (reduced .reduced-of .ensures) in
     let fits = ready-fits book list references (start .pre) (suc (loop .loop .k)) (test .loop-test .taken) in
-    omega (arith, one .settled-one .ensures, more-settled book list references (loop .loop .inv) (start .pre) (test .loop-test .taken) _ is, fits .sum-most, fits .few)
+    let more = more-settled book list references (loop .loop .inv) (start .pre) (test .loop-test .taken) _ is in
+    omega (arith, one .settled-one .ensures, more, fits .sum-most, fits .few)
 
 add-k : tie.Need-add-k Inv-loop μ-loop
 add-k c = search needs
@@ -103,7 +104,8 @@ loop-again c =
     let list = start .args .list .now in
     let references = start .args .references .now in
     let is = event-at book list references (loop .loop .k) _ _ _ refl (reduced .before .notice-at .ensures) (reduced .reduced-of .ensures) in
-    carried-next book list references (loop .loop .inv) (start .pre) (test .loop-test .taken) _ is _ (one .settled-one .ensures) _ (one .before .before .before .put-line .ensures)
+    let put = one .before .before .before in
+    carried-next book list references (loop .loop .inv) (start .pre) (test .loop-test .taken) _ is _ (one .settled-one .ensures) _ (put .put-line .ensures)
 
 same-length : tie.Need-same-length Inv-loop μ-loop
 same-length c = c .before .loop .inv .filled .size
