@@ -1,5 +1,5 @@
 /*
- * A plain C peer of the library's two calls, written from the specification the way C programs are: bytes are read where they lie,
+ * A plain C peer of two of the library's calls, written from the specification the way C programs are: bytes are read where they lie,
  * Easter and the weekday of day 0 are worked out once a call, and nothing is kept between calls. The speed of the proved
  * library is measured against it. It is no part of what is delivered.
  */

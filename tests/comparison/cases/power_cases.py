@@ -21,7 +21,7 @@ from cases.power_calls import (
     sparing, sum_case, unsettled, with_faults, with_high, wrong_call,
 )
 from cases.settlement_books import even_book, packed
-from cases.settlement_calls import LONGEST_LIST, drawn_placing, wrong_books
+from cases.settlement_calls import LONGEST_LIST, changed_cases, drawn_placing, wrong_books
 from cases.settlement_cases import LIST_LENGTHS
 from second import winters
 from second.energies import HIGHEST_READING
@@ -414,15 +414,9 @@ def largest_credits():
 
 
 def random_calls():
-    """Plausible calls as they are, or with one thing or several made random."""
-    source = random.Random(SEED)
-    cases = []
-    for _ in range(RANDOM_CALLS):
-        query = plausible_call(source)
-        for change in source.sample(ANYTHING, source.choice((0, 0, 1, 1, 1, 1, 2, len(ANYTHING)))):
-            query = change(source, query)
-        cases.append(Case(query))
-    return cases
+    """Plausible calls, in most of which something is made random."""
+    how_many = (0, 0, 1, 1, 1, 1, 2, len(ANYTHING))
+    return changed_cases(random.Random(SEED), RANDOM_CALLS, plausible_call, ANYTHING, how_many)
 
 
 GROUPS = (

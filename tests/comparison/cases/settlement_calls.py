@@ -161,6 +161,18 @@ def wrong_call(source, winter, wrong):
 # Plausible calls, and ways to make one thing in a call random.
 
 
+def changed_cases(source, count, plausible, changes, how_many):
+    """So many plausible calls as they are, or with one thing or several made random: how many of
+    the changes, as drawn from these numbers."""
+    cases = []
+    for _ in range(count):
+        query = plausible(source)
+        for change in source.sample(changes, source.choice(how_many)):
+            query = change(source, query)
+        cases.append(Case(query))
+    return cases
+
+
 def plausible_call(source):
     winter = source.choice(winters.WINTERS)
     listed = source.choice((one_notice, a_few, many))(source, winter, 1)

@@ -23,9 +23,9 @@ from cases.settlement_books import (
     level_energies, lowered, needed_places, only_needed, packed, warm_up_places,
 )
 from cases.settlement_calls import (
-    ANYTHING, EDGE_PRICES, LONGEST_LIST, NOTICE_BYTES, WRONG_PRICES, built_lines, drawn_list,
-    drawn_placing, drawn_price, even_case, faulty_case, level_case, plausible_call, settle,
-    trial_case, wrong_books, wrong_call,
+    ANYTHING, EDGE_PRICES, LONGEST_LIST, NOTICE_BYTES, WRONG_PRICES, built_lines, changed_cases,
+    drawn_list, drawn_placing, drawn_price, even_case, faulty_case, level_case, plausible_call,
+    settle, trial_case, wrong_books, wrong_call,
 )
 from second import settlements, winters
 from second.energies import HIGHEST_READING, HOURS, MISSING
@@ -406,15 +406,11 @@ def faulty_books():
 
 
 def random_settlements():
-    """Plausible calls as they are, or with one thing or several made random."""
-    source = random.Random(SEED)
-    cases = []
-    for _ in range(RANDOM_SETTLEMENTS):
-        query = plausible_call(source)
-        for change in source.sample(ANYTHING, source.choice((0, 0, 0, 1, 1, 1, 2, len(ANYTHING)))):
-            query = change(source, query)
-        cases.append(Case(query))
-    return cases
+    """Plausible settlements, in more than half of which something is made random."""
+    how_many = (0, 0, 0, 1, 1, 1, 2, len(ANYTHING))
+    return changed_cases(
+        random.Random(SEED), RANDOM_SETTLEMENTS, plausible_call, ANYTHING, how_many,
+    )
 
 
 GROUPS = (
