@@ -15,7 +15,8 @@
  *   winter    has the name Y, the year in which its December lies, 2010 to 2098: winter 2026 is that of 2026/27.
  *   day       counted from 1 November Y, which is day 0, so that 1 December is day 30 and 31 March Y+1 is day N-1.
  *             N is 152 where Y+1 can be divided by 4 (in this range: a leap year), and 151 in other winters.
- *   hour      0 to 23 by the clock, 24 on every day. Hour h lasts until hour h+1 begins.
+ *   hour      0 to 23 by the clock, 24 in the book on every day. Hour h lasts until hour h+1 begins. On the second Sunday of March
+ *             Y+1 the clocks go forward and there is no hour 2; its place in the book stays, and any number may stand there.
  *   reading   the energy drawn in one hour, in Wh: 0 to 10,000,000. IBISLADDER_MISSING stands for a missing one.
  *   book      all readings of a winter: 24 N numbers of 32 bits, day by day, the reading of an hour at index 24 * day + hour.
  *   notice    three numbers of 32 bits: its day, its first hour s, and the hour e at which it ends. Hour e is not one of its hours.
@@ -68,16 +69,16 @@ extern "C" {
  * with another. What may differ is the words of the two _text functions, the times and, below IBISLADDER_STACK_BYTES, the stack.
  */
 #define IBISLADDER_VERSION_MAJOR 0
-#define IBISLADDER_VERSION_MINOR 3
+#define IBISLADDER_VERSION_MINOR 4
 #define IBISLADDER_VERSION_PATCH 0
-#define IBISLADDER_VERSION "0.3.0"
+#define IBISLADDER_VERSION "0.4.0"
 
 /* Sizes and bounds. */
 #define IBISLADDER_FIRST_WINTER 2010u
 #define IBISLADDER_LAST_WINTER 2098u
 #define IBISLADDER_DAYS 151u             /* N, where the year after the winter's December is no leap year */
 #define IBISLADDER_DAYS_LEAP 152u        /* N, where it is one */
-#define IBISLADDER_HOURS 24u             /* hours of a day */
+#define IBISLADDER_HOURS 24u             /* hours of a day, in the book */
 #define IBISLADDER_MOST_NOTICES 100u     /* notices of a list, at most */
 #define IBISLADDER_NOTICE_NUMBERS 3u     /* numbers of a notice: day, first hour, end */
 #define IBISLADDER_LINE_NUMBERS 4u       /* numbers of a line of ibisladder_settle: code, place, energy, cents */
@@ -214,7 +215,9 @@ uint32_t ibisladder_check(uint32_t winter, uint32_t profile, const uint8_t *list
  * it was. Or gives why not, and has written nothing: 1, 2, 3, 4 and 6 in this order, then the numbers of the notices as
  * ibisladder_check gives them under profile 1.
  *
- * A reading that no event needs is not looked at: it may be missing or anything else.
+ * A reading that no event needs is not looked at: it may be missing or anything else. Hour 2 of the Sunday the clocks go forward
+ * is never needed: on that day events that start at 6 or 7 warm up in other hours, and for such events of later days it is no
+ * reference day (docs/RULES.md, rules 5.1 and 5.4).
  */
 uint32_t ibisladder_settle(uint32_t winter, const uint8_t *book, size_t book_length, uint32_t price, const uint8_t *list,
                            size_t list_length, uint8_t *out, size_t out_length);

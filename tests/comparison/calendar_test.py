@@ -19,6 +19,8 @@ from second import winters
 POSSIBLE = {
     "days": ("0", "1"),
     "easter": ("0", "1"),
+    "forward": ("0", "1"),
+    "back": ("0", "1"),
     "weekday": ("0", "1", "10"),
     "kind": ("0", "1", "10"),
     "date": ("0", "1", "10"),
@@ -28,10 +30,18 @@ POSSIBLE = {
 
 # What calls say to a year that is no winter, to a day that the book has not, and to such a date.
 NO_WINTER = {
-    "days": "1", "weekday": "1", "kind": "1", "date": "1", "book_day": "1", "readings": "0",
+    "days": "1", "forward": "1", "back": "1", "weekday": "1", "kind": "1", "date": "1",
+    "book_day": "1", "readings": "0",
 }
 NO_DAY = {"weekday": "10", "kind": "10", "date": "10", "readings": "0"}
 NO_DATE = {"book_day": "10"}
+
+# The days of November and of March on which clocks in America were changed, or are to be, from
+# the winter 2010 on. Published, so neither program's.
+CHANGED = (
+    (7, 13), (6, 11), (4, 10), (3, 9), (2, 8), (1, 13), (6, 12), (5, 11), (4, 10), (3, 8),
+    (1, 14), (7, 13), (6, 12), (5, 10), (3, 9), (2, 8), (1, 14),
+)
 
 # Queries that are mostly refused would compare little: this share of all of them
 # must be about a real day of a real winter.
@@ -148,10 +158,21 @@ def winters_outside():
     ]
 
 
-OUTSIDE = (
+def changed_clocks():
+    """The winters whose Sundays were published, with these as days since 1 November."""
+    cases = []
+    for w, (november, march) in enumerate(CHANGED, start=winters.WINTERS[0]):
+        first = date(w, 11, 1)
+        back, forward = (on - first for on in (date(w, 11, november), date(w + 1, 3, march)))
+        cases.append(Case((w, 0, 0), {"forward": f"0,{forward.days}", "back": f"0,{back.days}"}))
+    return cases
+
+
+KNOWN = (
     ("days behind the book", days_outside),
     ("dates that the book has not", dates_outside),
     ("years that are no winter", winters_outside),
+    ("the Sundays of the clocks as published, 17 winters", changed_clocks),
 )
 
 GROUPS = (
@@ -172,17 +193,17 @@ def check_queries(make, answered):
     check_group(lambda: [Case(query) for query in make()], both_of_days, answered)
 
 
-def told_outside(case, line):
+def told_known(case, line):
     """What a line says in the fields that its query was built for."""
     said = fields(line)
     return {call: said.get(call) for call in case.built_for}
 
 
-def check_outside(make):
-    """Outside the book, and outside all winters, both programs say what was known beforehand."""
+def check_known(make):
+    """Both programs say what was known beforehand."""
     answered = []
     check_group(make, both_of_days, answered)
-    check_built(told_outside, answered)
+    check_built(told_known, answered)
 
 
 def check_every_number(answered):
@@ -222,13 +243,27 @@ def check_second_easter():
         raise Failure(f"the second program's Easter is another one in {wrong}")
 
 
+def check_sundays():
+    """In every winter the library's own weekday and date of its two days are right: a Sunday, the
+    one that is 8 to 14 March, and the one that is 1 to 7 November."""
+    asked, _ = both_of_days([(w, 0, 0) for w in winters.WINTERS])
+    for call, month, of_month in (("forward", 3, range(8, 15)), ("back", 11, range(1, 8))):
+        days = [fields(line)[call].removeprefix("0,") for line in asked]
+        said, _ = both_of_days([(w, int(day), 0) for w, day in zip(winters.WINTERS, days)])
+        right = [{"weekday": "0,0", "date": f"0,{month},{on}"} for on in of_month]
+        for line in said:
+            if not any(one.items() <= fields(line).items() for one in right):
+                raise Failure(f"the Sunday of {call}: {line}")
+
+
 def all_tests():
     """Every test, as its name and a check that raises Failure."""
     answered = []
     return [
         ("second program's Easter by the formula", check_second_easter),
         *((name, partial(check_queries, make, answered)) for name, make in GROUPS),
-        *((name, partial(check_outside, make)) for name, make in OUTSIDE),
+        *((name, partial(check_known, make)) for name, make in KNOWN),
+        ("the Sundays of the clocks by the library's own dates", check_sundays),
         ("every possible number was given", partial(check_every_number, answered)),
         ("enough queries were accepted", partial(check_accepted, answered)),
     ]

@@ -11,13 +11,15 @@ from functools import partial
 from itertools import product
 
 from cases.checks import check_built, check_every, check_group, check_happened, check_share
+from cases.clock_events import STARTS, SUNDAY_MUST_BE, sunday_to, warm_up_of
 from cases.energy_cases import GROUPS, SEED
 from cases.event_books import (
-    FAULTY_BOOKS, LIMIT, SOUND_BOOKS, drawn_query, lengths, step, stepped_book, with_book,
+    FAULTY_BOOKS, LIMIT, SOUND_BOOKS, drawn_query, lengths, period, step, stepped_book, with_book,
 )
 from cases.layers import ask_events, told
 from common.harness import Failure, run_tests
-from second import energies, numbers
+from second import energies, numbers, winters
+from second.notices import Notice
 
 # Queries that are mostly refused or unsettled would compare few energies: this share of all
 # of them must be settled, with code 0.
@@ -107,16 +109,33 @@ def check_second_books():
             raise Failure(f"the second program's book is another one: {query}")
 
 
+def check_second_warm_up():
+    """The second program has the warm-up hours of the tables, on every day at every start."""
+    for winter in winters.WINTERS:
+        for day, start in product(period(winter), STARTS):
+            said = energies.warm_up_hours(winter, Notice(day, start, start + 1))
+            if said != warm_up_of(winter, day, start):
+                raise Failure(f"winter {winter}, day {day}, start {start}: {said}")
+
+
+def check_sunday(answered):
+    """The Sunday the clocks go forward was all that it can be to a settled event."""
+    settled = (case.query for case, line in answered if told(line)[:2] == ("code", 0))
+    check_happened([(sunday_to(query),) for query in settled], SUNDAY_MUST_BE)
+
+
 def all_tests():
     """Every test, as its name and a check that raises Failure."""
     answered, spared = [], []
     both = partial(both_and_spared, spared=spared)
     return [
         ("second program's books step by step", check_second_books),
+        ("second program's warm-up hours by the tables", check_second_warm_up),
         *((name, partial(check_group, make, both, answered)) for name, make in GROUPS),
         ("lines that queries were built for", partial(check_built, lambda _, line: line, answered)),
         ("every possible number was given", partial(check_every_number, answered)),
         ("all that can happen to an energy happened", partial(check_happened, spared, MUST_HAPPEN)),
+        ("all that the Sunday can be to an event happened", partial(check_sunday, answered)),
         ("enough queries were settled", partial(check_settled, answered)),
     ]
 

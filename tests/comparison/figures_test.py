@@ -14,8 +14,9 @@ from cases.calls import both_of_calls
 from cases.checks import check_figure, check_same, shown
 from cases.event_books import bare_query, with_readings
 from cases.figures import (
-    CHECK_FIGURES, DAY_FIGURES, EASTER_DAYS, EASTER_LISTS, EVENT_FIGURES, FIXED_DAYS,
-    HUNDRED_HOURS, LIST_FIGURES, POWER_FIGURES, REFERENCES, SETTLEMENT_FIGURES,
+    CHECK_FIGURES, CLOCK_SUNDAY, DAY_FIGURES, EASTER_DAYS, EASTER_LISTS, EVENT_FIGURES,
+    FIXED_DAYS, HUNDRED_HOURS, LIST_FIGURES, POWER_FIGURES, REFERENCES, SETTLEMENT_FIGURES,
+    SUNDAY_HOURS,
 )
 from cases.layers import (
     both_of_days, both_of_events, both_of_lists, fields, number_and_place, pairs,
@@ -74,27 +75,49 @@ def check_hundred_hours(cases):
             raise Failure(f"the masks have {hours} hours")
 
 
-def check_references(numbers, day, right):
+def settled_event(numbers, day, hours):
+    """A query on an event of winter 2026 in a book that has every reading."""
+    return bare_query(2026, numbers, day, hours)._replace(seed=SEED, low=500, spread=4_000)
+
+
+def check_references(numbers, day, hours, right):
     """Of all days of the book just these are reference days, nearest first: a missing
     reading at a needed hour changes the answer on them only, and of several missing ones
     that on the nearest day decides."""
-    query = bare_query(2026, numbers, day, (6, 9))._replace(seed=SEED, low=500, spread=4_000)
+    warm_up, (start, end) = hours
+    query = settled_event(numbers, day, (start, end))
     others = [other for other in range(query.length // 24) if other != day]
     # The first and the last needed hour of each day.
-    places = list(product(others, (1, 8)))
+    first, last = warm_up[0], end - 1
+    places = list(product(others, (first, last)))
     tails = [right[nearest:] for nearest in range(len(right))]
     queries = [
         query,
         *(with_readings(query, {place: MISSING}) for place in places),
-        *(with_readings(query, {(other, 1): MISSING for other in tail}) for tail in tails),
+        *(with_readings(query, {(other, first): MISSING for other in tail}) for tail in tails),
     ]
     (whole, *said), second = both_of_events(queries)
     check_same(queries, [whole, *said], second)
     if not whole.startswith("0,0,0,"):
         raise Failure(f"the library said {whole} before a reading was missing")
     missing = {place: f"0,21,{place_of(*place)},0" for place in places if place[0] in right}
-    of_tails = [f"0,21,{place_of(tail[0], 1)},0" for tail in tails]
+    of_tails = [f"0,21,{place_of(tail[0], first)},0" for tail in tails]
     check_same(queries[1:], said, [*(missing.get(one, whole) for one in places), *of_tails])
+
+
+def check_sunday_hours(hours):
+    """Of all hours of its own day an event of that Sunday needs just these."""
+    warm_up, (start, end) = hours
+    query = settled_event((), CLOCK_SUNDAY, (start, end))
+    places = [(CLOCK_SUNDAY, hour) for hour in range(24)]
+    queries = [query, *(with_readings(query, {place: MISSING}) for place in places)]
+    (whole, *said), second = both_of_events(queries)
+    check_same(queries, [whole, *said], second)
+    if not whole.startswith("0,0,0,"):
+        raise Failure(f"the library said {whole} before a reading was missing")
+    needed = {*warm_up, *range(start, end)}
+    right = [f"0,21,{place_of(*one)},0" if one[1] in needed else whole for one in places]
+    check_same(queries[1:], said, right)
 
 
 # As a text.
@@ -142,6 +165,10 @@ def all_tests():
         *(
             (f"{name}, by event", partial(check_references, *figure))
             for name, *figure in REFERENCES
+        ),
+        *(
+            (f"{name}, by event", partial(check_sunday_hours, hours))
+            for name, hours in SUNDAY_HOURS
         ),
         *(
             (f"{name}, {way}", partial(check_figure, cases, both_of_calls, calls.told))

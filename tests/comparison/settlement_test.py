@@ -7,6 +7,7 @@ The last line printed is "N passed, M failed".
 """
 
 from collections import Counter
+from datetime import date, timedelta
 from fractions import Fraction
 from functools import partial
 
@@ -106,6 +107,30 @@ def check_november():
             raise Failure(f"code 20 can be given in winter {winter}")
 
 
+def back_is_unread(case):
+    """Whether a call's book has no reading on the Sunday the clocks go back, the one of the book's
+    first seven days."""
+    first_days = [date(case.query.winter, 11, 1) + timedelta(day) for day in range(7)]
+    day = next(day for day, on in enumerate(first_days) if on.isoweekday() == 7)
+    book = settlements.lent_numbers(case.query.book)
+    return set(book[energies.HOURS * day:energies.HOURS * (day + 1)]) == {energies.MISSING}
+
+
+def check_back_never_read(answered):
+    """In every winter all events were settled, on all weekend days that may have one, without a
+    reading of the Sunday the clocks go back."""
+    settled = set()
+    for case, given in answered:
+        lines = lines_of(case, given)
+        if lines and not any(line.code for line in lines):
+            days = set(settlements.lent_numbers(case.query.listed)[0::3])
+            taken = "weekends" in kinds_taken(case.query.winter, days)
+            settled |= {case.query.winter} if taken and back_is_unread(case) else set()
+    print(f"  winters: {len(settled)}")
+    if settled != set(winters.WINTERS):
+        raise Failure("not in every winter")
+
+
 def check_accepted(answered):
     """Enough settlements were accepted, and enough with lines."""
     answers = [given.answer for case, given in answered if is_settlement(case.query)]
@@ -160,6 +185,7 @@ def all_tests():
         ("every possible number and code was given", partial(check_every_number, answered)),
         ("code 20 cannot be given", partial(check_no_code_20, answered)),
         ("November has five days of each kind", check_november),
+        ("the Sunday the clocks go back is not read", partial(check_back_never_read, answered)),
         ("enough settlements were accepted", partial(check_accepted, answered)),
         ("what should stay was not touched", partial(check_untouched, answered)),
         ("every run of lines is worth its cents", partial(check_runs, answered)),

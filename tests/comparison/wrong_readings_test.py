@@ -1,4 +1,4 @@
-"""Runs the wrong readings that docs/RULES.md warns of, each on an input made for it.
+"""Runs wrong readings of the rules, each on an input made for it.
 
 On that input a wrong reading gives another answer than the second program, or the test fails;
 and the library must give the second program's: event by event, from C, and as a text.
@@ -18,8 +18,9 @@ from cases.settlement_books import LEVEL, Saving, level_book, packed
 from cases.statement_runs import both_of_texts, read_statement
 from cases.statement_texts import Parts, book_reads
 from cases.wrong_readings import (
-    Reading, each_line_by_itself, event_hours_out, floored_adjustment, limit_always, lines_by,
-    nearest_whole_wh, one_day_at_all_hours, whole_wh_down, whole_wh_up,
+    Reading, always_the_sunday, as_on_any_day, by_each_clock, each_line_by_itself,
+    event_hours_out, floored_adjustment, limit_always, lines_by, nearest_whole_wh,
+    never_the_sunday, on_another_sunday, one_day_at_all_hours, whole_wh_down, whole_wh_up,
 )
 from common.harness import Failure, run_tests
 from second.energies import Query
@@ -47,7 +48,8 @@ class Trap(NamedTuple):
         ]
 
 
-# The inputs. All are of winter 2026, where day 38 is a Wednesday.
+# The inputs. All are of winter 2026, where day 38 is a Wednesday. The clocks go forward on day 133,
+# and day 140 is the Sunday after it.
 
 
 def level_query(listed, savings):
@@ -57,12 +59,11 @@ def level_query(listed, savings):
     return bare_query(2026, flat(listed), 38, (6, 9))._replace(low=LEVEL, changes=changes)
 
 
-def other_evening_query():
-    """A morning event on day 57, and an evening one on day 51: no two readings need be alike,
-    and the event draws little."""
-    query = bare_query(2026, (51, 16, 17, 57, 6, 9), 57, (6, 9))
+def drawn_query(*listed):
+    """A book in which no two readings need be alike, and events that draw little."""
+    query = bare_query(2026, flat(listed), 38, (6, 9))
     query = query._replace(seed=2026, low=2_000, spread=1_000)
-    return with_readings(query, {(57, hour): 500 for hour in (6, 7, 8)})
+    return with_readings(query, {(day, hour): 500 for day, s, e in listed for hour in range(s, e)})
 
 
 def mild_morning_query():
@@ -75,6 +76,24 @@ def mild_morning_query():
 HALF_CENTS = level_query([(38, 6, 9), (38, 16, 20), (39, 7, 8)], [Saving(10)] * 3)
 THIRDS_OF_A_WH = level_query([(day, 6, 7) for day in (36, 37, 38)], [Saving(0, 1)] * 3)
 
+# Readings of the Sunday the clocks go forward, and an event each.
+OF_THE_CLOCKS = (
+    ("clocks: passed over for start 8 too", Reading(days=never_the_sunday), (140, 8, 10)),
+    ("clocks: passed over for start 16 too", Reading(days=never_the_sunday), (139, 16, 17)),
+    ("clocks: not passed over for start 6", Reading(days=always_the_sunday), (140, 6, 9)),
+    ("clocks: not passed over for start 7", Reading(days=always_the_sunday), (139, 7, 8)),
+    ("clocks: hours 1, 2, 3 before 6", Reading(warm_up=as_on_any_day), (133, 6, 9)),
+    ("clocks: hours 2, 3, 4 before 7", Reading(warm_up=as_on_any_day), (133, 7, 10)),
+    ("clocks: other hours on reference days", Reading(warm_up=by_each_clock), (133, 6, 9)),
+    (
+        "clocks: other hours on it as a reference day",
+        Reading(days=always_the_sunday, warm_up=by_each_clock), (140, 6, 9),
+    ),
+    ("clocks: the first Sunday of March", on_another_sunday(-1), (133, 6, 9)),
+    ("clocks: the first Sunday of March passed over", on_another_sunday(-1), (139, 6, 9)),
+    ("clocks: the last Sunday of March", on_another_sunday(2), (147, 6, 9)),
+)
+
 TRAPS = (
     Trap(
         "the same two days left out at every hour",
@@ -82,7 +101,7 @@ TRAPS = (
     ),
     Trap(
         "a day that serves beside its event",
-        Reading(days=event_hours_out), other_evening_query(), 50_000,
+        Reading(days=event_hours_out), drawn_query((51, 16, 17), (57, 6, 9)), 50_000,
     ),
     Trap(
         "every line's cents rounded alone",
@@ -102,6 +121,7 @@ TRAPS = (
         "no adjustment below 0",
         Reading(formula=floored_adjustment), mild_morning_query(), 50_000,
     ),
+    *(Trap(name, wrong, drawn_query(notice), 1_000_000) for name, wrong, notice in OF_THE_CLOCKS),
 )
 
 

@@ -1,7 +1,8 @@
 """Tests the scripts that prove and run: many at once, from nothing and from built.
 
 The built program is this repository's own. What is made from nothing is made in a tiny repository
-with a stand-in for the toolchain (tiny.py), since a proof takes minutes.
+with a stand-in for the toolchain (tiny.py), since a proof takes minutes. The days that
+scripts/calendar has to mark stand here: no other program is asked for them.
 The last line printed is "N passed, M failed".
 """
 
@@ -15,6 +16,7 @@ from common.harness import ROOT, SECONDS_ALLOWED, Failure, ended, run, run_tests
 from tiny import Tiny, ends_of
 
 STATEMENT = "scripts/statement"
+CALENDAR = "scripts/calendar"
 AT_ONCE = 20
 TIMES = 10
 FEW_TIMES = 2
@@ -173,6 +175,42 @@ def check_help():
     check_equal((done.returncode, done.stdout), (2, b""), "two files")
 
 
+# All days of a winter that the calendar has a word on. 2024 is a leap year.
+MARKED = {
+    2023: """\
+  4   5 November   Sunday     clocks back
+ 53  24 December   Sunday     excluded
+ 54  25 December   Monday     excluded
+ 55  26 December   Tuesday    excluded
+ 60  31 December   Sunday     excluded
+ 61   1 January    Monday     excluded
+ 62   2 January    Tuesday    excluded
+130  10 March      Sunday     clocks forward: no hour 2
+149  29 March      Friday     excluded
+""",
+    2026: """\
+  0   1 November   Sunday     clocks back
+ 53  24 December   Thursday   excluded
+ 54  25 December   Friday     excluded
+ 55  26 December   Saturday   excluded
+ 60  31 December   Thursday   excluded
+ 61   1 January    Friday     excluded
+ 62   2 January    Saturday   excluded
+133  14 March      Sunday     clocks forward: no hour 2
+145  26 March      Friday     excluded
+148  29 March      Monday     excluded
+""",
+}
+
+
+def check_calendar():
+    """A winter's calendar marks these days and no others."""
+    for winter, right in MARKED.items():
+        _, *days = run(ROOT / CALENDAR, str(winter)).stdout.decode().splitlines()
+        marked = [line for line in days if not line.endswith("day")]
+        check_equal(marked, right.splitlines(), f"winter {winter}")
+
+
 TESTS = [
     ("twenty at once from nothing, ten times", check_from_nothing),
     ("twenty at once from built: the toolchain is not asked", check_not_asked),
@@ -184,6 +222,7 @@ TESTS = [
     ("killed while the toolchain is at work", check_killed),
     ("stopped while the toolchain is at work", check_stopped),
     ("--help", check_help),
+    ("the calendar marks excluded days and both Sundays the clocks change", check_calendar),
 ]
 
 

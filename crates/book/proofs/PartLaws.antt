@@ -9,7 +9,7 @@ use native.Mathlib.Omega.{arith}
 use lib.Dec.{ltb, eqb}
 use lib.ListN.{length, take, drop, length-take, length-drop}
 use lib.Seq.{getD-take, getD-drop}
-use Rattle.laws.proofs.Every.{Every, joined, imply, map-of}
+use Rattle.laws.proofs.Every.{Every, imply}
 use Rattle.laws.proofs.Guards.{neither}
 use Rattle.calendar.proofs.Promise.{days-few, book-day, day-there}
 use Rattle.calendar.specs.Days.{wrongWinter, noDay}
@@ -23,6 +23,7 @@ use Rattle.book.specs.declared.values.Fault.the-variants.{Clean, Missing
 use Rattle.book.specs.declared.values.Fault.{Fault}
 use Rattle.book.proofs.FaultLaws.{faults-joined}
 use Rattle.book.proofs.LengthLaws.{right-length, length-right}
+use Rattle.book.proofs.PlaceLaws.{on-days}
 
 -- what a book that has the part tells: a winter, 24N numbers, a day of the book
 pub record HasPart (w : Winter) (n d : ℕ) : Type 0 where
@@ -75,12 +76,8 @@ place-in w n d h e b = omega (arith, has-part w n d e .whole, has-part w n d e .
 
 pub places-in : (w : Winter) (n : ℕ) (hours ds : List ℕ) → Every InDay hours → Every (λ (d : ℕ). noPart w n d ≡ false) ds
     → Every (λ (p : ℕ). p < n) (placesOn hours ds)
-unfolding placesOn
-places-in w n hours [] in-day there = tt
-places-in w n hours (d ∷ ds) in-day there =
-    joined _ (placesOf d hours) (placesOn hours ds)
-    (map-of _ (λ (h : ℕ). hourPlace d h) hours (imply _ _ (λ h b. place-in w n d h (there .0) b) hours in-day))
-    (places-in w n hours ds in-day (there .1))
+places-in w n hours ds in-day there =
+    on-days (λ (p : ℕ). p < n) hours ds (imply _ _ (λ d e. imply _ _ (λ h b. place-in w n d h e b) hours in-day) ds there)
 
 pub part-of-book : (w : Winter) (book : List ℕ) (d : ℕ) {p : List ℕ} → noPart w (length book) d ≡ false → p ≡ dayReadings w book d → PartOf book d p
 unfolding dayReadings

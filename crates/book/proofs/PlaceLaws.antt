@@ -1,12 +1,12 @@
--- Laws of the places of hours: what holds of every place of some hours of some days holds at each hour on each day; and the places of a run of
--- hours are a run of places.
+-- Laws of the places of hours: what holds of every place of some hours of some days holds at each hour on each day, and back; and the places of
+-- a run of hours are a run of places.
 -- Assumes nothing.
 use Prim.Native.Nat.{ℕ, zero, suc, _-_, _*_}
 use mathlib.Core.List.{List, [], _∷_}
 use mathlib.Core.Path.{_≡_, refl}
 use native.Mathlib.Nat.{add-suc}
 use native.Mathlib.Omega.{arith}
-use Rattle.laws.proofs.Every.{Every, left, right, mapped, both, all}
+use Rattle.laws.proofs.Every.{Every, left, right, joined, mapped, map-of, both, all}
 use Rattle.book.specs.Length.{dayHours}
 use Rattle.book.specs.Places.{hourPlace, hoursFrom, run, placesOf, placesOn}
 
@@ -20,6 +20,13 @@ at-hours P hours (d ∷ ds) a =
     hours
     (mapped P (λ (h : ℕ). hourPlace d h) hours (left P (placesOf d hours) (placesOn hours ds) a))
     (at-hours P hours ds (right P (placesOf d hours) (placesOn hours ds) a))
+
+-- and back: what holds at each hour on each day holds of every place
+pub on-days : (P : ℕ → Type 0) (hours ds : List ℕ) → Every (λ (d : ℕ). Every (λ (h : ℕ). P (hourPlace d h)) hours) ds → Every P (placesOn hours ds)
+unfolding placesOn
+on-days P hours [] a = tt
+on-days P hours (d ∷ ds) a =
+    joined P (placesOf d hours) (placesOn hours ds) (map-of P (λ (h : ℕ). hourPlace d h) hours (a .0)) (on-days P hours ds (a .1))
 
 places-from : (d h n : ℕ) → placesOf d (hoursFrom h n) ≡ hoursFrom (hourPlace d h) n
 unfolding hoursFrom

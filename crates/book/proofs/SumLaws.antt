@@ -2,7 +2,7 @@
 -- multiples, and a bound.
 -- Assumes nothing.
 use Prim.Native.Nat.{ℕ, _+_, _*_, _≤_, _<_, min}
-use mathlib.Core.List.{List, [], _∷_}
+use mathlib.Core.List.{List, [], _∷_, _++_}
 use mathlib.Core.Logic.{⊎-elim}
 use mathlib.Core.Path.{_≡_, refl, sym}
 use native.Mathlib.Nat.{mul-add, mul-zero}
@@ -21,6 +21,12 @@ sum-more f h to b = rw (run-more h to b)
 pub sum-none : (f : ℕ → ℕ) (h to : ℕ) → to ≤ h → sumOver f (run h to) ≡ 0
 unfolding sumOver
 sum-none f h to b = rw (run-none h to b)
+
+-- in two parts
+pub sum-joined : (f : ℕ → ℕ) (xs ys : List ℕ) → sumOver f (xs ++ ys) ≡ sumOver f xs + sumOver f ys
+unfolding sumOver
+sum-joined f [] ys = omega arith
+sum-joined f (x ∷ xs) ys = rw (sum-joined f xs ys) (omega arith)
 
 pub sum-same : (f g : ℕ → ℕ) (hours : List ℕ) → Every (λ (h : ℕ). f h ≡ g h) hours → sumOver f hours ≡ sumOver g hours
 unfolding sumOver

@@ -1,4 +1,4 @@
--- What an answer of `winter_of` or of `kind_of` tells: since no second outcome fits, it is the one that the definitions make.
+-- What an answer of `winter_of`, `kind_of` or `clocks_forward` tells: since no second outcome fits, it is the one that the definitions make.
 -- Assumes nothing.
 use Prim.Native.Nat.{ℕ}
 use mathlib.Core.Bool.{Bool, true, false, cond}
@@ -8,18 +8,21 @@ use native.Mathlib.Omega.{arith}
 use Rattle.laws.proofs.Refusals.{refused, kept}
 use Rattle.laws.specs.Answer.{refusal, refuse}
 use Rattle.dates.specs.Winters.{noWinter}
-use Rattle.calendar.specs.Answers.{factsPaper, knownPaper, kindPaper, winterFacts, dayKind}
+use Rattle.calendar.specs.Answers.{factsPaper, knownPaper, kindPaper, changePaper, winterFacts, dayKind, forwardDay}
+use Rattle.calendar.specs.Clocks.{clocksForward}
 use Rattle.calendar.specs.Days.{wrongWinter, noDay, inPeriod}
 use Rattle.calendar.specs.Excluded.{excluded}
 use Rattle.calendar.specs.Weekdays.{weekend}
 use Rattle.calendar.specs.WinterOf.{winterOf}
+use Rattle.calendar.specs.declared.answers.Change.the-variants as ChangeCase
+use Rattle.calendar.specs.declared.answers.Change.{Change}
 use Rattle.calendar.specs.declared.answers.DayKind.the-variants as DayKindCase
 use Rattle.calendar.specs.declared.answers.DayKind.{DayKind}
 use Rattle.calendar.specs.declared.answers.Kind.{Kind}
 use Rattle.calendar.specs.declared.answers.Known.the-variants as KnownCase
 use Rattle.calendar.specs.declared.answers.Known.{Known}
 use Rattle.calendar.specs.declared.answers.Winter.{Winter}
-use Rattle.calendar.proofs.OneOutcome.{known-one, kind-one}
+use Rattle.calendar.proofs.OneOutcome.{known-one, kind-one, change-one}
 
 pub known-is : (y : ℕ) (r : Known) → knownPaper r ≡ winterFacts y → r ≡ cond (noWinter y) KnownCase.NoWinter (KnownCase.Is (winterOf y))
 unfolding winterFacts
@@ -101,3 +104,15 @@ module _ (w : Winter) (d : ℕ) (r : DayKind) where
           → wrongWinter w ≡ false
       either true n p = let z = f p in absurd (omega arith)
       either false n p = n
+
+-- of facts that are a winter's, the Sunday the clocks go forward is always told
+module _ (w : Winter) (right : wrongWinter w ≡ false) {r : Change} where
+  forward-known : changePaper r ≡ forwardDay w → r ≡ ChangeCase.On (clocksForward w)
+  unfolding forwardDay
+  forward-known e = change-one r _ (forwardDay w) e (kept (refusal 1) right refl)
+
+  pub forward-on : {day : ℕ} → r ≡ ChangeCase.On day → changePaper r ≡ forwardDay w → day ≡ clocksForward w
+  forward-on q e = let is = forward-known e in cc
+
+  pub forward-told : r ≡ ChangeCase.NoWinter → changePaper r ≡ forwardDay w → ⊥
+  forward-told q e = let is = forward-known e in let z : _≡_ {A = ℕ} 0 1 = cc in omega arith

@@ -6,7 +6,9 @@ use mathlib.Core.List.{List, [], _∷_}
 use mathlib.Core.Path.{_≡_, refl}
 use Rattle.laws.proofs.ReadBack.{read-back}
 use Rattle.laws.specs.Answer.{Answer, bit}
-use Rattle.calendar.specs.Answers.{knownPaper, sundayPaper, kindPaper}
+use Rattle.calendar.specs.Answers.{knownPaper, sundayPaper, kindPaper, changePaper}
+use Rattle.calendar.specs.declared.answers.Change.the-variants as ChangeCase
+use Rattle.calendar.specs.declared.answers.Change.{Change}
 use Rattle.calendar.specs.declared.answers.DayKind.the-variants as DayKindCase
 use Rattle.calendar.specs.declared.answers.DayKind.{DayKind}
 use Rattle.calendar.specs.declared.answers.Known.the-variants as KnownCase
@@ -26,6 +28,18 @@ sunday-one = read-back sundayPaper (λ a. sundayBack (a .values)) inv
     inv : (r : Sunday) → sundayBack (sundayPaper r .values) ≡ r
     inv (SundayCase.On month day) = refl
     inv SundayCase.NoYear = refl
+
+changeBack : List ℕ → Change
+changeBack [] = ChangeCase.NoWinter
+changeBack (day ∷ vs) = ChangeCase.On day
+
+pub change-one : (r s : Change) (a : Answer) → changePaper r ≡ a → changePaper s ≡ a → r ≡ s
+unfolding changeBack
+change-one = read-back changePaper (λ a. changeBack (a .values)) inv
+  where
+    inv : (r : Change) → changeBack (changePaper r .values) ≡ r
+    inv (ChangeCase.On day) = refl
+    inv ChangeCase.NoWinter = refl
 
 knownBack : List ℕ → Known
 knownBack [] = KnownCase.NoWinter

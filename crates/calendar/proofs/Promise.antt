@@ -93,7 +93,7 @@ early-excluded y d h =
     no-more false true = refl
     no-more false false = refl
 
--- November: no excluded day, at least eight weekend days and twenty weekdays
+-- November: no excluded day, and behind its first seven days at least six weekend days and fifteen weekdays
 
 november-free : ℕ → Bool
 november-free d = not (among d fixedDays)
@@ -110,16 +110,16 @@ november-open y d h = early-excluded y d (omega arith) ∙ fixed-none (among d f
 weekendFrom : ℕ → ℕ → Bool
 weekendFrom f d = eqb ((f + d) % 7) 0 || eqb ((f + d) % 7) 6
 
-eight : ℕ → Bool
-eight f = leb 8 (howMany (weekendFrom f) 30)
+six : ℕ → Bool
+six f = leb 6 (howMany (λ i. weekendFrom f (7 + i)) 23)
 
-twenty : ℕ → Bool
-twenty f = leb 20 (howMany (λ d. not (weekendFrom f d)) 30)
+fifteen : ℕ → Bool
+fifteen f = leb 15 (howMany (λ i. not (weekendFrom f (7 + i))) 23)
 
-pub november-weekends : (y : ℕ) → 8 ≤ howMany (weekend (winterOf y)) 30
-unfolding eight weekendFrom weekend weekday firstWeekday winterOf
-november-weekends y = leb→le 8 (howMany (weekend (winterOf y)) 30) (below eight 7 tt (firstWeekday y) (omega arith))
+pub november-weekends : (y : ℕ) → 6 ≤ howMany (λ i. weekend (winterOf y) (7 + i)) 23
+unfolding six weekendFrom weekend weekday firstWeekday winterOf
+november-weekends y = leb→le 6 (howMany (λ i. weekend (winterOf y) (7 + i)) 23) (below six 7 tt (firstWeekday y) (omega arith))
 
-pub november-weekdays : (y : ℕ) → 20 ≤ howMany (λ d. not (weekend (winterOf y) d)) 30
-unfolding twenty weekendFrom weekend weekday firstWeekday winterOf
-november-weekdays y = leb→le 20 (howMany (λ d. not (weekend (winterOf y) d)) 30) (below twenty 7 tt (firstWeekday y) (omega arith))
+pub november-weekdays : (y : ℕ) → 15 ≤ howMany (λ i. not (weekend (winterOf y) (7 + i))) 23
+unfolding fifteen weekendFrom weekend weekday firstWeekday winterOf
+november-weekdays y = leb→le 15 (howMany (λ i. not (weekend (winterOf y) (7 + i))) 23) (below fifteen 7 tt (firstWeekday y) (omega arith))

@@ -4,11 +4,14 @@ use Prim.Native.Nat.{ℕ}
 use mathlib.Core.List.{[], _∷_}
 use Rattle.laws.specs.Answer.{Answer, given, refusal, refuse, bit}
 use Rattle.dates.specs.Winters.{noWinter}
+use Rattle.calendar.specs.Clocks.{clocksForward, clocksBack}
 use Rattle.calendar.specs.Days.{wrongWinter, noDay, inPeriod}
 use Rattle.calendar.specs.Easter.{noEasterYear, easterMonth, easterDay}
 use Rattle.calendar.specs.Excluded.{excluded}
 use Rattle.calendar.specs.Weekdays.{weekday, weekend}
 use Rattle.calendar.specs.WinterOf.{winterOf}
+use Rattle.calendar.specs.declared.answers.Change.the-variants as ChangeCase
+use Rattle.calendar.specs.declared.answers.Change.{Change}
 use Rattle.calendar.specs.declared.answers.DayKind.the-variants as DayKindCase
 use Rattle.calendar.specs.declared.answers.DayKind.{DayKind}
 use Rattle.calendar.specs.declared.answers.Known.the-variants as KnownCase
@@ -34,6 +37,10 @@ kindPaper (DayKindCase.Is k) = given (bit (k .period) ∷ bit (k .weekend) ∷ b
 kindPaper DayKindCase.NoWinter = refusal 1
 kindPaper DayKindCase.NoDay = refusal 10
 
+abbrev pub changePaper : Change → Answer
+changePaper (ChangeCase.On day) = given (day ∷ [])
+changePaper ChangeCase.NoWinter = refusal 1
+
 -- what each call answers (rule 1.16)
 unfoldable pub winterFacts : ℕ → Answer
 winterFacts y = refuse (noWinter y) (refusal 1) (factsPaper (winterOf y))
@@ -49,3 +56,10 @@ dayKind w d =
 
 unfoldable pub weekdayOf : ℕ → ℕ → Answer
 weekdayOf y d = refuse (noWinter y) (refusal 1) (refuse (noDay (winterOf y) d) (refusal 10) (given (weekday (winterOf y) d ∷ [])))
+
+-- the Sundays on which the clocks change (rules 1.16 and 1.19)
+unfoldable pub forwardDay : Winter → Answer
+forwardDay w = refuse (wrongWinter w) (refusal 1) (given (clocksForward w ∷ []))
+
+unfoldable pub backDay : Winter → Answer
+backDay w = refuse (wrongWinter w) (refusal 1) (given (clocksBack w ∷ []))

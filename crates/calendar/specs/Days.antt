@@ -1,7 +1,7 @@
 -- The days of a winter's book, and those of the winter period. A question on a day goes by the winter's facts, and anything may be handed
 -- over as these.
 -- Assumes nothing.
-use Prim.Native.Nat.{ℕ}
+use Prim.Native.Nat.{ℕ, _-_}
 use mathlib.Core.Bool.{Bool, _&&_, _||_}
 use lib.Dec.{leb, ltb}
 use Rattle.calendar.specs.declared.answers.Winter.{Winter}
@@ -17,3 +17,7 @@ noDay w d = leb (w .days) d
 -- rule 1.10: the winter period, from 1 December on
 unfoldable pub inPeriod : Winter → ℕ → Bool
 inPeriod w d = leb (w .december) d && ltb d (w .days)
+
+-- 1 March of a book of n days: 31 March is its last, day n - 1 (rule 1.5)
+abbrev pub marchFirst : ℕ → ℕ
+marchFirst n = n - 31

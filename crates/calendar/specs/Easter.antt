@@ -4,6 +4,7 @@ use Prim.Native.Nat.{ℕ, _+_, _-_, _*_, _/_, _%_}
 use mathlib.Core.Bool.{Bool, _||_}
 use lib.Dec.{ltb}
 use Rattle.dates.specs.Winters.{days}
+use Rattle.calendar.specs.Days.{marchFirst}
 
 -- rule 1.14: 1, a year whose Easter is not answered
 unfoldable pub noEasterYear : ℕ → Bool
@@ -37,7 +38,6 @@ easterDay y = easterT y % 31 + 1
 abbrev pub afterMarchFirst : ℕ → ℕ
 afterMarchFirst y = 31 * (easterMonth y - 3) + easterDay y - 1
 
--- Easter Sunday of the year after as a day of the book of winter y, the count going on past the book's end: 31 March is day N - 1, so that
--- 1 March is day N - 31 (rule 1.17)
+-- Easter Sunday of the year after as a day of the book of winter y, the count going on past the book's end (rule 1.17)
 unfoldable pub easterInBook : ℕ → ℕ
-easterInBook y = days y - 31 + afterMarchFirst (y + 1)
+easterInBook y = marchFirst (days y) + afterMarchFirst (y + 1)

@@ -34,3 +34,9 @@ pub enum DayKind {
     NoWinter,
     NoDay,
 }
+
+// The Sunday on which the clocks change, as a book day.
+pub enum Change {
+    On(u32),
+    NoWinter,
+}

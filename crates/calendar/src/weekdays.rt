@@ -1,5 +1,6 @@
 // Weekdays of the book's days, counted from Sunday, 0, to Saturday, 6.
 ghost use mathlib.Core.Path.{_≡_};
+ghost use Prim.Native.Nat.{_≤_};
 ghost use Rattle.dates.specs.Century.{InCentury};
 ghost use Rattle.dates.specs.Answers.{numberPaper};
 ghost use Rattle.calendar.specs.Answers.{weekdayOf};
@@ -18,15 +19,18 @@ pub(crate) fn first_weekday(winter: u32) -> u32
     (winter + winter / 4 - CENTURY + CENTURY / 4 + 3) % 7
 }
 
-// The weekday of a day, counted on from that of day 0.
-fn weekday_in(w: Winter, day: u32) -> u32
+// The weekday of a day, counted on from that of day 0. That may have been handed over as any number, and is cut down first: then nothing
+// wraps in 32 bits.
+pub(crate) fn weekday_in(w: Winter, day: u32) -> u32
+    requires { ⌜ day ≤ 152 ⌝ }
     ensures { λ r. ⌜ r ≡ weekday w day ⌝ }
 {
-    ((w.first as u64 + day as u64) % 7) as u32
+    (w.first % 7 + day) % 7
 }
 
 // Whether a day is a Saturday or a Sunday.
 pub(crate) fn is_weekend(w: Winter, day: u32) -> bool
+    requires { ⌜ day ≤ 152 ⌝ }
     ensures { λ r. ⌜ r ≡ weekend w day ⌝ }
 {
     let weekday = weekday_in(w, day);

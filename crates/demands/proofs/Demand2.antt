@@ -86,7 +86,7 @@ module _ (winter price : ℕ) (book list out : List ℕ) (ok : settlement winter
   lines =
       record {
         as-many = refl;
-        each = λ k h. event-line list-stands book (noticeAt list k) (list-stands .each k h .from-december) _ _ _
+        each = λ k h. event-line list-stands book (noticeAt list k) (list-stands .each k h) _ _ _
             (line-is-answer winter price book list out ok k h ∙ ap (lineOf book) (asked-is (winterOf winter) (freeIn (masksOf list)) (noticeAt list k)));
       }
 

@@ -1,4 +1,5 @@
 pub mod ByFault
+pub mod Clocks
 pub mod Demand1
 pub mod Demand2
 pub mod Demand3

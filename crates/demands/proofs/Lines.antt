@@ -1,68 +1,71 @@
 -- The line of an event of an accepted list, joined from the laws of the layers: reference days by masks are those by notices, five are always
--- found, and what the first fault tells decides.
+-- found, what the clocks change is not read, and what the first fault tells decides.
 -- Assumes nothing.
 use Prim.Native.Nat.{ℕ, _≤_}
 use mathlib.Core.Bool.{Bool, true}
 use mathlib.Core.List.{List}
 use mathlib.Core.Logic.{inl, inr, _↔_}
-use mathlib.Core.Path.{_≡_, refl, ap}
+use mathlib.Core.Path.{_≡_, ap}
 use native.Mathlib.Omega.{arith}
 use lib.ListN.{length}
-use Rattle.book.proofs.FirstFault.{Holds, FaultTells}
+use Rattle.book.proofs.FirstFault.{Holds}
 use Rattle.book.specs.Readings.{firstFault}
 use Rattle.calendar.specs.WinterOf.{winterOf}
 use Rattle.references.proofs.FiveFound.{free-zero, why-serves, serves-so, five-found}
 use Rattle.references.proofs.ReferenceLaws.{zero-free}
 use Rattle.energy.proofs.HourLaws.{whole-factor}
 use Rattle.references.proofs.Nearest.{Passes, refs-serve, refs-fall, refs-all}
-use Rattle.energy.proofs.Unsettled.{Why, line-why, settled-where, settled-only}
+use Rattle.energy.proofs.Unsettled.{Why, line-why, settled-where, settled-only, asked-is}
 use Rattle.energy.specs.Asked.{Asked, askedWith, needed}
 use Rattle.energy.specs.Energy.{energyOf}
-use Rattle.energy.specs.Line.{settled, byFault, lineOf}
+use Rattle.energy.specs.Line.{lineOf}
 use Rattle.references.specs.ReferenceDays.{freeIn, serves, referenceDays}
 use Rattle.energy.specs.declared.events.Event.{Event}
-use Rattle.event_hours.proofs.FreeDays.{mask-free, quiet}
+use Rattle.event_hours.proofs.FreeDays.{mask-free}
 use Rattle.event_hours.specs.Days.{masksOf}
 use Rattle.laws.proofs.Every.{Every, imply}
 use Rattle.notices.specs.declared.notices.Notice.{Notice}
 use Rattle.notices.specs.declared.profiles.Figures.{Figures}
-use Rattle.schedule.proofs.Standing.{Standing}
+use Rattle.schedule.proofs.Standing.{Stands, Standing}
 use Rattle.demands.specs.Demand2.{Serves, FiveNearest, Unsettled, EventLine}
 use Rattle.demands.proofs.ByFault.{unsettled-by}
+use Rattle.demands.proofs.Clocks.{no-event-yet, in-credit-band, unread}
 
 -- reference days by the masks of a list that stands are those by its notices
-module _ {y : ℕ} {f : Figures} {l : List ℕ} (st : Standing y f l) (day : ℕ) where
+module _ {y : ℕ} {f : Figures} {l : List ℕ} (st : Standing y f l) (day s : ℕ) where
   abbrev free : ℕ → Bool
   free = freeIn (masksOf l)
 
   abbrev refs : List ℕ
-  refs = referenceDays (winterOf y) free day
+  refs = referenceDays (winterOf y) free day s
 
-  by-notices : (d : ℕ) → Passes (serves (winterOf y) free day) day d → Serves y l day d
+  by-notices : (d : ℕ) → Passes (serves (winterOf y) free day s) day d → Serves y l day s d
   by-notices d p =
-      let s = why-serves (winterOf y) free day d (p .ok-is) in
+      let t = why-serves (winterOf y) free day s d (p .ok-is) in
       record {
         earlier = p .earlier;
-        same-kind = s .same-kind;
-        no-event = mask-free st d .0 (free-zero (masksOf l) d (s .free-day));
-        open-day = s .open-day;
+        same-kind = t .same-kind;
+        no-event = mask-free st d .0 (free-zero (masksOf l) d (t .free-day));
+        open-day = t .open-day;
+        has-hours = t .has-hours;
       }
 
-  by-masks : (d : ℕ) → Serves y l day d → serves (winterOf y) free day d ≡ true
-  by-masks d s =
-      serves-so (winterOf y) free day d (record {
-        same-kind = s .same-kind;
-        free-day = zero-free (masksOf l) d (mask-free st d .1 (s .no-event));
-        open-day = s .open-day;
+  by-masks : (d : ℕ) → Serves y l day s d → serves (winterOf y) free day s d ≡ true
+  by-masks d t =
+      serves-so (winterOf y) free day s d (record {
+        same-kind = t .same-kind;
+        free-day = zero-free (masksOf l) d (mask-free st d .1 (t .no-event));
+        open-day = t .open-day;
+        has-hours = t .has-hours;
       })
 
-  pub five-nearest : 30 ≤ day → FiveNearest y l day refs
+  pub five-nearest : 30 ≤ day → FiveNearest y l day s refs
   five-nearest later =
       record {
-        five = five-found y free day (λ d h. zero-free (masksOf l) d (quiet st d h)) later;
-        each = imply (Passes (serves (winterOf y) free day) day) (Serves y l day) by-notices refs (refs-serve (winterOf y) free day);
-        nearest-first = refs-fall (winterOf y) free day;
-        no-nearer = λ d s out. refs-all (winterOf y) free day d (s .earlier) (by-masks d s) out .0;
+        five = five-found y free day s (no-event-yet st) later;
+        each = imply (Passes (serves (winterOf y) free day s) day) (Serves y l day s) by-notices refs (refs-serve (winterOf y) free day s);
+        nearest-first = refs-fall (winterOf y) free day s;
+        no-nearer = λ d t out. refs-all (winterOf y) free day s d (t .earlier) (by-masks d t) out .0;
       }
 
 -- what a line says of the needed readings, by the first fault among them
@@ -89,15 +92,15 @@ module _ (book : List ℕ) (q : Asked) (five : length (q .refs) ≡ 5) where
       by e (inr enough) not =
           rw (enough .says) (unsettled-by book (needed q) (energyOf book q) (firstFault book (needed q)) (enough .told) (rw (enough .says) at not))
 
-pub event-line : {y : ℕ} {f : Figures} {l : List ℕ} → Standing y f l → (book : List ℕ) (n : Notice) → 30 ≤ n .day
+pub event-line : {y : ℕ} {f : Figures} {l : List ℕ} → Standing y f l → (book : List ℕ) (n : Notice) → Stands y f n
     → (code place energy : ℕ)
     → _≡_ {A = Event} (record { code = code; place = place; energy = energy })
-    (lineOf book (askedWith (winterOf y) n (referenceDays (winterOf y) (freeIn (masksOf l)) (n .day))))
+    (lineOf book (askedWith (winterOf y) n (referenceDays (winterOf y) (freeIn (masksOf l)) (n .day) (n .start))))
     → EventLine y book l n code place energy
-event-line {y} {f} {l} st book n later code place energy e =
-    let refs = referenceDays (winterOf y) (freeIn (masksOf l)) (n .day) in
+event-line {y} {f} {l} st book n stands code place energy e =
+    let refs = referenceDays (winterOf y) (freeIn (masksOf l)) (n .day) (n .start) in
     let q = askedWith (winterOf y) n refs in
-    let nearest = five-nearest st (n .day) later in
+    let nearest = five-nearest st (n .day) (n .start) (stands .from-december) in
     let five = nearest .five in
     let c : code ≡ lineOf book q .code = ap (λ (x : Event). x .code) e in
     let p : place ≡ lineOf book q .place = ap (λ (x : Event). x .place) e in
@@ -108,7 +111,8 @@ event-line {y} {f} {l} st book n later code place energy e =
       says = record {
         settled-iff = rw c (settled-exactly book q five);
         settled = rw (c, p, g) (settled-so book q five);
-        whole-factor = whole-factor (winterOf y) (n .day) (n .start) (length (q .event));
+        whole-factor = whole-factor (winterOf y) (n .day) (n .start) (length (q .event)) (in-credit-band st n stands .late);
         unsettled = rw (c, p, g) (unsettled-so book q five);
       };
+      unread = rw (asked-is (winterOf y) (freeIn (masksOf l)) n) at (unread st n stands);
     }

@@ -1,4 +1,5 @@
 pub mod Faces
+pub mod Clocks
 pub mod Demand2
 pub mod Demand3
 pub mod PowerSheet

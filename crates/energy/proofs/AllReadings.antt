@@ -2,9 +2,9 @@
 -- for the end.
 -- Assumes nothing.
 use Prim.Native.Nat.{ℕ, _+_, _≤_, _<_}
-use mathlib.Core.Bool.{true, false}
+use mathlib.Core.Bool.{Bool, true, false, _&&_, and-assoc}
 use mathlib.Core.List.{List, [], _∷_, _++_, map}
-use mathlib.Core.Path.{_≡_, refl, ap}
+use mathlib.Core.Path.{_≡_, refl, sym, ap}
 use native.Mathlib.Omega.{arith}
 use borrow.Author.Tests.{leb-true}
 use Rattle.book.proofs.FirstFault.{Holds, no-fault}
@@ -34,6 +34,19 @@ module _ (parts : List (List ℕ)) (h to : ℕ) (b : h < to) (high : ℕ) (is : 
 pub no-hour : (parts : List (List ℕ)) (h to : ℕ) → to ≤ h → true ≡ allReadings parts (run h to)
 unfolding allReadings
 no-hour parts h to b = rw (run-none h to b)
+
+-- the warm-up hours: the one run where the other is empty, else both
+all-joined : (parts : List (List ℕ)) (xs ys : List ℕ) → allReadings parts (xs ++ ys) ≡ (allReadings parts xs && allReadings parts ys)
+unfolding allReadings
+all-joined parts [] ys = refl
+all-joined parts (h ∷ xs) ys = rw (all-joined parts xs ys) (sym (and-assoc (isReading (highestAt parts h)) (allReadings parts xs) (allReadings parts ys)))
+
+module _ (parts : List (List ℕ)) (hours : Hours) {warm : Bool} (is : warm ≡ allReadings parts (run (hours .warm) (hours .pause))) where
+  pub whole-readings : hours .gap ≤ hours .early → warm ≡ allReadings parts (warmRun hours)
+  whole-readings none = rw (run-none (hours .early) (hours .gap) none) is
+
+  pub split-readings : {early : Bool} → early ≡ allReadings parts (run (hours .early) (hours .gap)) → (early && warm) ≡ allReadings parts (warmRun hours)
+  split-readings e = rw (all-joined parts (run (hours .early) (hours .gap)) (run (hours .warm) (hours .pause)), ← e, ← is)
 
 -- where the highest is a reading each is
 each-most : (m : ℕ) (xs : List ℕ) → largestOf xs ≤ m → Every (λ (x : ℕ). x ≤ m) xs

@@ -28,7 +28,7 @@ use Rattle.energy.specs.Ready.{DaysReady, PartsReady}
 use Rattle.energy.specs.Trimmed.{trimmedOf}
 use Rattle.energy.specs.declared.events.Event.{Event}
 use Rattle.energy.specs.declared.hours.Hours.{Hours}
-use Rattle.energy.proofs.HourLaws.{warm-hours, event-hours}
+use Rattle.energy.proofs.HourLaws.{warm-hours, event-hours, warm-counted}
 use Rattle.energy.proofs.TrimmedLaws.{five}
 
 module _ (book : List ℕ) where
@@ -75,7 +75,7 @@ module _ (book : List ℕ) (hours : Hours) (inside : HoursIn hours) (day : ℕ) 
   energy-is =
       rw (
         run-long (hours .start) (hours .end),
-        run-long (hours .warm) (hours .pause),
+        warm-counted hours,
         trims (eventRun hours) (event-hours hours inside),
         trims (warmRun hours) (warm-hours hours inside),
         drawn (warmRun hours) (warm-hours hours inside),

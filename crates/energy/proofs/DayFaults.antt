@@ -1,9 +1,9 @@
--- The first fault from day to day: of a day's two runs of hours, one law for each way out, and of six days, one after the other.
+-- The first fault from day to day: of a day's three runs of hours, one law for each way out, and of six days, one after the other.
 -- Assumes nothing.
 use Prim.Native.Nat.{ℕ}
 use mathlib.Core.Bool.{true, false}
 use mathlib.Core.List.{List, [], _∷_, _++_}
-use mathlib.Core.Path.{_≡_, ap, _∙_}
+use mathlib.Core.Path.{_≡_}
 use lib.ListN.{length, getD}
 use Rattle.book.proofs.FaultLaws.{or-clean, or-fault, faults-joined}
 use Rattle.book.specs.Part.{faultOn}
@@ -14,19 +14,26 @@ use Rattle.book.specs.declared.values.Fault.{Fault}
 use Rattle.energy.specs.Parts.{partsFault}
 use Rattle.energy.proofs.TrimmedLaws.{five}
 
--- two runs of hours of day d, where nothing was wrong before: a fault in the first decides, else the second does
-module _ (part : List ℕ) (d : ℕ) (xs ys : List ℕ) (before first : Fault) (none : isClean before ≡ true) (is : first ≡ firstFault part xs) where
-  pub first-run : isClean first ≡ false → faultOn d first ≡ orFault before (faultOn d (firstFault part (xs ++ ys)))
-  first-run faulty =
-      rw (faults-joined part xs ys, ← is)
-      (ap (λ (f : Fault). faultOn d f) (or-fault first (firstFault part ys) faulty)
-      ∙ or-clean before (faultOn d (orFault first (firstFault part ys))) none)
+-- three runs of hours of a day: the first fault decides, run by run
+module _ (part xs ys zs : List ℕ) where
+  abbrev all : Fault
+  all = firstFault part ((xs ++ ys) ++ zs)
 
-  pub second-run : (second : Fault) → isClean first ≡ true → second ≡ firstFault part ys
-      → faultOn d second ≡ orFault before (faultOn d (firstFault part (xs ++ ys)))
-  second-run second clean q =
-      rw (faults-joined part xs ys, ← is, ← q)
-      (ap (λ (f : Fault). faultOn d f) (or-clean first second clean) ∙ or-clean before (faultOn d (orFault first second)) none)
+  all-is : all ≡ orFault (orFault (firstFault part xs) (firstFault part ys)) (firstFault part zs)
+  all-is = rw (faults-joined part (xs ++ ys) zs, faults-joined part xs ys)
+
+  module _ {first : Fault} (is : first ≡ firstFault part xs) where
+    pub first-run : isClean first ≡ false → first ≡ all
+    first-run faulty =
+        let either = or-fault first (firstFault part ys) faulty in
+        rw (all-is, ← is, ← either) (or-fault first (firstFault part zs) faulty)
+
+    module _ (clean : isClean first ≡ true) {second : Fault} (is2 : second ≡ firstFault part ys) where
+      pub second-run : isClean second ≡ false → second ≡ all
+      second-run faulty = rw (all-is, ← is, ← is2, ← or-clean first second clean) (or-fault second (firstFault part zs) faulty)
+
+      pub third-run : isClean second ≡ true → {third : Fault} → third ≡ firstFault part zs → third ≡ all
+      third-run clean2 {third} is3 = rw (all-is, ← is, ← is2, ← is3, ← or-clean first second clean) (or-clean second third clean2)
 
 -- six parts, day by day
 pub six-faults : (hours refs : List ℕ) (day : ℕ) (p q r s t u : List ℕ) {f0 f1 f2 f3 f4 f5 : Fault} → length refs ≡ 5

@@ -22,10 +22,11 @@ use Rattle.calendar.specs.declared.answers.Winter.{Winter}
 use Rattle.laws.specs.Table.{firstOf}
 use Rattle.laws.proofs.Every.{Every, left, right, joined, imply, map-of}
 use Rattle.notices.specs.declared.notices.Notice.{Notice}
-use Rattle.energy.specs.Asked.{Asked, askedBy, warmUp, needed}
+use Rattle.energy.specs.Asked.{Asked, askedBy, needed}
 use Rattle.energy.specs.Energy.{trimmedAt, energyOf}
 use Rattle.energy.specs.Line.{byFault, lineOf, eventRows, unlessRefused, eventAnswer}
 use Rattle.references.specs.ReferenceDays.{freeIn, referenceDays}
+use Rattle.references.specs.WarmUp.{warmUp}
 use Rattle.energy.specs.declared.events.Event.{Event}
 use Rattle.energy.proofs.CallLaws.{call-taken}
 use Rattle.energy.proofs.EnergyBound.{trimmed-bound, spared-bound}
@@ -77,7 +78,7 @@ module _ (book : List ℕ) (q : Asked) (few-refs : length (q .refs) ≤ 5) (few-
 
 module _ (w : Winter) (book masks : List ℕ) (n : Notice) where
   abbrev refs : List ℕ
-  refs = referenceDays w (freeIn masks) (n .day)
+  refs = referenceDays w (freeIn masks) (n .day) (n .start)
 
   pub needed-in : eventAnswer w book masks n .number ≡ 0 → Every (λ (p : ℕ). p < length book) (needed (askedBy w (freeIn masks) n))
   unfolding needed askedBy
@@ -89,14 +90,14 @@ module _ (w : Winter) (book masks : List ℕ) (n : Notice) where
       let hours = joined InDay (warmUp w (n .day) (n .start)) (hoursFrom (n .start) (n .end - n .start)) warm event in
       let there =
       imply _ _ (λ d p. part-earlier w (length book) (n .day) d (taken .there) (omega (arith, p .earlier))) refs
-      (refs-serve w (freeIn masks) (n .day)) in
+      (refs-serve w (freeIn masks) (n .day) (n .start)) in
       places-in w (length book) _ _ hours (taken .there, there)
 
   line-most : eventAnswer w book masks n .number ≡ 0 → lineOf book (askedBy w (freeIn masks) n) .energy ≤ largestEnergy
   unfolding askedBy
   line-most e =
       let taken = call-taken w book masks n e in
-      energy-most book (askedBy w (freeIn masks) n) (refs-few w (freeIn masks) (n .day))
+      energy-most book (askedBy w (freeIn masks) n) (refs-few w (freeIn masks) (n .day) (n .start))
       (omega (arith, hours-long (n .start) (n .end - n .start), taken .spans .few))
 
   pub answer-most : eventAnswer w book masks n .event .energy ≤ largestEnergy

@@ -11,5 +11,7 @@ pub mod OneOutcome
 pub mod Scaled
 pub mod Signs
 pub mod SparedLaws
+pub mod SplitHours
 pub mod TrimmedLaws
+pub mod Unread
 pub mod Unsettled

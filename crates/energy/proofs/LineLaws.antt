@@ -25,9 +25,9 @@ use Rattle.references.proofs.FoundLaws.{Finds}
 use Rattle.references.proofs.Nearest.{Passes, refs-serve, refs-few}
 
 -- the search's answer r: fewer than five days, or the five
-module _ (w : Winter) (free : ℕ → Bool) (n : Notice) (r : Refs) (found : Finds (referenceDays w free (n .day)) r) where
+module _ (w : Winter) (free : ℕ → Bool) (n : Notice) (r : Refs) (found : Finds (referenceDays w free (n .day) (n .start)) r) where
   abbrev refs : List ℕ
-  refs = referenceDays w free (n .day)
+  refs = referenceDays w free (n .day) (n .start)
 
   pub line-few : (book : List ℕ) → r .count < 5 → unsettled 20 0 ≡ lineOf book (askedBy w free n)
   unfolding lineOf askedBy
@@ -35,14 +35,14 @@ module _ (w : Winter) (free : ℕ → Bool) (n : Notice) (r : Refs) (found : Fin
 
   module _ (enough : 5 ≤ r .count) where
     five-refs : length refs ≡ 5
-    five-refs = omega (arith, found .counted, refs-few w free (n .day))
+    five-refs = omega (arith, found .counted, refs-few w free (n .day) (n .start))
 
     days-are : r .days ≡ refs
     days-are = sym (take-all (r .count) (r .days) (omega (arith, found .long))) ∙ found .first
 
     earlier : (k : ℕ) → k < 5 → getD (r .days) k 0 < n .day
     earlier k b =
-        let serving = at (Passes (serves w free (n .day)) (n .day)) refs k 0 (omega (arith, five-refs)) (refs-serve w free (n .day)) in
+        let serving = at (Passes (serves w free (n .day) (n .start)) (n .day)) refs k 0 (omega (arith, five-refs)) (refs-serve w free (n .day) (n .start)) in
         rw days-are (serving .earlier)
 
     module _ (hours : Hours) (is : HoursFor w (n .day) (n .start) (n .end) hours) where

@@ -88,6 +88,6 @@ module _ (book : List ℕ) (q : Asked) where
           rw (enough .says) (fault-small m some (firstFault book (needed q)) (energyOf book q) (fault-among book (λ (p : ℕ). p < m) (needed q) places))
 
 -- what is asked by the days that are free is asked with the reference days
-pub asked-is : (w : Winter) (free : ℕ → Bool) (n : Notice) → askedBy w free n ≡ askedWith w n (referenceDays w free (n .day))
+pub asked-is : (w : Winter) (free : ℕ → Bool) (n : Notice) → askedBy w free n ≡ askedWith w n (referenceDays w free (n .day) (n .start))
 unfolding askedBy
 asked-is w free n = refl

@@ -1,25 +1,20 @@
--- What an event asks of a book, by the winter, the days that are free of events and the notice alone: its day, its warm-up and event hours,
--- and its reference days.
+-- What an event asks of a book, by the winter, the days that are free of events and the notice alone: its day, its warm-up hours (rules 5.1 and
+-- 5.2) and event hours, and its reference days.
 -- Assumes nothing.
 use Prim.Native.Nat.{ℕ, _-_}
-use mathlib.Core.Bool.{Bool, cond}
+use mathlib.Core.Bool.{Bool}
 use mathlib.Core.List.{List, _∷_, _++_}
-use lib.Dec.{ltb}
 use Rattle.book.specs.Places.{hoursFrom, placesOn}
 use Rattle.calendar.specs.declared.answers.Winter.{Winter}
-use Rattle.notices.specs.Profiles.{credit}
 use Rattle.notices.specs.declared.notices.Notice.{Notice}
 use Rattle.references.specs.ReferenceDays.{referenceDays}
+use Rattle.references.specs.WarmUp.{warmUp}
 
 pub record Asked : Type 0 where
   pub day : ℕ
   pub warm : List ℕ
   pub event : List ℕ
   pub refs : List ℕ
-
--- rules 5.1 and 5.2: the warm-up hours of an event that starts at hour s, on any day of any winter
-unfoldable pub warmUp : Winter → ℕ → ℕ → List ℕ
-warmUp w day s = cond (ltb s (credit .evening .start)) (hoursFrom (s - 5) 3) (hoursFrom (s - 4) 2)
 
 -- by a notice and some reference days
 abbrev pub askedWith : Winter → Notice → List ℕ → Asked
@@ -32,7 +27,7 @@ askedWith w n refs = record {
 
 -- by a notice and the days that are free of events
 unfoldable pub askedBy : Winter → (ℕ → Bool) → Notice → Asked
-askedBy w free n = askedWith w n (referenceDays w free (n .day))
+askedBy w free n = askedWith w n (referenceDays w free (n .day) (n .start))
 
 -- rule 5.7: the places of the needed readings, in the order in which they are looked at
 unfoldable pub needed : Asked → List ℕ

@@ -8,7 +8,7 @@ use Rattle.book.specs.Readings.{readingAt, firstFault, sumOver}
 use Rattle.book.specs.Values.{isReading, orFault}
 use Rattle.book.specs.declared.values.Fault.{Fault}
 use Rattle.book.specs.declared.values.Fault.the-variants.{Clean}
-use Rattle.energy.specs.HoursOf.{warmRun, eventRun}
+use Rattle.energy.specs.HoursOf.{warmRun, eventRun, warmCount}
 use Rattle.energy.specs.Line.{byFault}
 use Rattle.energy.specs.Spared.{sparedOf}
 use Rattle.energy.specs.Trimmed.{largestOf, trimmedOf}
@@ -37,7 +37,7 @@ trimmedIn parts h = trimmedOf (map (λ (p : List ℕ). readingAt p h) parts)
 -- the spared energy, from the event day's part and those of the reference days
 unfoldable pub partsEnergy : Hours → List ℕ → List (List ℕ) → ℕ
 partsEnergy hours event parts =
-    sparedOf (hours .end - hours .start) (hours .pause - hours .warm)
+    sparedOf (hours .end - hours .start) (warmCount hours)
     (sumOver (trimmedIn parts) (eventRun hours))
     (sumOver (trimmedIn parts) (warmRun hours))
     (sumOver (readingAt event) (warmRun hours))

@@ -12,7 +12,7 @@ use Rattle.book.specs.Values.{AtPlace}
 use Rattle.book.specs.declared.values.Fault.{Fault}
 use Rattle.calendar.specs.declared.answers.Winter.{Winter}
 use Rattle.notices.specs.declared.notices.Notice.{Notice}
-use Rattle.energy.specs.HoursOf.{Spans, HoursIn}
+use Rattle.energy.specs.HoursOf.{Spans, HoursIn, warmRun}
 use Rattle.energy.specs.Parts.{trimmedIn}
 use Rattle.references.specs.Search.{BookDay}
 use Rattle.energy.specs.Trimmed.{trimmedOf}
@@ -60,14 +60,19 @@ pub record TrimmedSum (parts : List (List ℕ)) (from to sum : ℕ) : Type 0 whe
   pub is : sum ≡ sumOver (trimmedIn parts) (run from to)
   pub small : sum < 2 ^ 40
 
+-- a sum over the warm-up hours, which are two runs
+pub record WarmSum (f : ℕ → ℕ) (hours : Hours) (sum : ℕ) : Type 0 where
+  pub is : sum ≡ sumOver f (warmRun hours)
+  pub small : sum < 2 ^ 41
+
 -- H, W, R, B, A and C that no step of the formula wraps with
 pub record SumsFit (h w r b a c : ℕ) : Type 0 where
   pub few-hours : h ≤ 4
   pub two-warm : 2 ≤ w
-  pub r-small : r < 2 ^ 40
-  pub b-small : b < 2 ^ 40
-  pub a-small : a < 2 ^ 40
-  pub c-small : c < 2 ^ 40
+  pub r-small : r < 2 ^ 41
+  pub b-small : b < 2 ^ 41
+  pub a-small : a < 2 ^ 41
+  pub c-small : c < 2 ^ 41
 
 -- two factors and their product
 pub record FactorsFit (x k : ℕ) : Type 0 where

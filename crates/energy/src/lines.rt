@@ -14,10 +14,14 @@ use crate::events::Event;
 use crate::events::by_fault;
 use crate::hours::Hours;
 use crate::hours::hours_of;
+use crate::hours::warm_count;
 use crate::needed::all_readings;
 use crate::needed::needed_fault;
+use crate::needed::warm_readings;
 use crate::spared::spared;
 use crate::sums::trimmed_sum;
+use crate::sums::warm_drawn;
+use crate::sums::warm_trimmed;
 use book::Fault;
 use calendar::Winter;
 use notices::Notice;
@@ -38,11 +42,11 @@ fn energy(
         (now (r0 .entry) ∷ now (r1 .entry) ∷ now (r2 .entry) ∷ now (r3 .entry) ∷ now (r4 .entry) ∷ []) ⌝ }
 {
     let r = trimmed_sum(r0, r1, r2, r3, r4, hours.start, hours.end);
-    let b = trimmed_sum(r0, r1, r2, r3, r4, hours.warm, hours.pause);
-    let a = book::sum_of(event, hours.warm, hours.pause);
+    let b = warm_trimmed(r0, r1, r2, r3, r4, hours);
+    let a = warm_drawn(event, hours);
     let c = book::sum_of(event, hours.start, hours.end);
     let h = (hours.end - hours.start) as u64;
-    let w = (hours.pause - hours.warm) as u64;
+    let w = warm_count(hours);
     spared(h, w, r, b, a, c)
 }
 
@@ -64,7 +68,7 @@ fn line_of_parts(
         (now (r0 .entry) ∷ now (r1 .entry) ∷ now (r2 .entry) ∷ now (r3 .entry) ∷ now (r4 .entry) ∷ []) ⌝ }
 {
     let spared = energy(hours, event, r0, r1, r2, r3, r4);
-    let warm = all_readings(event, r0, r1, r2, r3, r4, hours.warm, hours.pause);
+    let warm = warm_readings(event, r0, r1, r2, r3, r4, hours);
     let own = all_readings(event, r0, r1, r2, r3, r4, hours.start, hours.end);
     if warm & own {
         return by_fault(Fault::Clean, spared);
@@ -101,7 +105,7 @@ pub(crate) fn line_in(w: Winter, book: &[u32], masks: &[u32; 152], n: Notice) ->
     requires { ⌜ EventReady w (length (now book)) n ⌝ }
     ensures { λ r. ⌜ r ≡ lineOf (now (book .entry)) (askedBy w (freeIn (now (masks .entry))) n) ⌝ }
 {
-    let found = reference_days(w, masks, n.day);
+    let found = reference_days(w, masks, n.day, n.start);
     let count = found.count;
     let refs = found.days;
     if count < 5 {

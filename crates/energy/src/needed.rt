@@ -56,6 +56,26 @@ pub(crate) fn all_readings(
     true
 }
 
+// Whether the six days have readings at all warm-up hours.
+pub(crate) fn warm_readings(
+    event: &[u32],
+    r0: &[u32],
+    r1: &[u32],
+    r2: &[u32],
+    r3: &[u32],
+    r4: &[u32],
+    hours: Hours,
+) -> bool
+    ensures { λ r. ⌜ r ≡ allReadings
+        (now (event .entry) ∷ now (r0 .entry) ∷ now (r1 .entry) ∷ now (r2 .entry) ∷ now (r3 .entry) ∷ now (r4 .entry) ∷ []) (warmRun hours) ⌝ }
+{
+    let warm = all_readings(event, r0, r1, r2, r3, r4, hours.warm, hours.pause);
+    if hours.gap <= hours.early {
+        return warm;
+    }
+    all_readings(event, r0, r1, r2, r3, r4, hours.early, hours.gap) & warm
+}
+
 // A fault at an hour of a day's part, told at its place in the book.
 fn placed(fault: Fault, day: u32) -> Fault
     requires { ⌜ HourTold day fault ⌝ }
@@ -68,6 +88,21 @@ fn placed(fault: Fault, day: u32) -> Fault
     }
 }
 
+// The first fault among a day's readings of the needed hours, told at its hour.
+fn day_fault(part: &[u32], hours: Hours) -> Fault
+    ensures { λ r. ⌜ r ≡ firstFault (now (part .entry)) (warmRun hours ++ eventRun hours) ⌝ }
+{
+    let early = book::first_fault(part, hours.early, hours.gap);
+    if !book::is_clean(early) {
+        return early;
+    }
+    let warm = book::first_fault(part, hours.warm, hours.pause);
+    if !book::is_clean(warm) {
+        return warm;
+    }
+    book::first_fault(part, hours.start, hours.end)
+}
+
 // A fault, or where there is none the first among a day's readings of the needed hours.
 fn fault_after(fault: Fault, part: &[u32], day: u32, hours: Hours) -> Fault
     requires { ⌜ DayReady day hours ⌝ }
@@ -76,12 +111,7 @@ fn fault_after(fault: Fault, part: &[u32], day: u32, hours: Hours) -> Fault
     if !book::is_clean(fault) {
         return fault;
     }
-    let warm = book::first_fault(part, hours.warm, hours.pause);
-    if !book::is_clean(warm) {
-        return placed(warm, day);
-    }
-    let event = book::first_fault(part, hours.start, hours.end);
-    placed(event, day)
+    placed(day_fault(part, hours), day)
 }
 
 // The first fault among all needed readings: the event day's, and then those of the five reference days, nearest first.

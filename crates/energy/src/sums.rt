@@ -1,10 +1,12 @@
-// The sums of T over hours: R and B.
+// The sums over hours: R and B of T, and A of what the event's day drew.
 ghost use mathlib.Core.Path.{_≡_};
 ghost use mathlib.Core.List.{List, [], _∷_, map};
 ghost use Prim.Native.Nat.{ℕ};
 ghost use Rattle.book.specs.Readings.{readingAt};
-ghost use Rattle.energy.specs.HoursOf.{RunIn};
-ghost use Rattle.energy.specs.Ready.{TrimmedSum};
+ghost use Rattle.energy.specs.HoursOf.{RunIn, HoursIn};
+ghost use Rattle.energy.specs.Parts.{trimmedIn};
+ghost use Rattle.energy.specs.Ready.{TrimmedSum, WarmSum};
+use crate::hours::Hours;
 use crate::trimmed::trimmed_of;
 
 // The five reference readings of an hour.
@@ -27,7 +29,7 @@ pub(crate) fn five_readings(
     [a, b, c, d, e]
 }
 
-// T over the hours from one up to another: R or B.
+// T over the hours from one up to another: R, or a part of B.
 pub(crate) fn trimmed_sum(
     r0: &[u32],
     r1: &[u32],
@@ -49,4 +51,36 @@ pub(crate) fn trimmed_sum(
         hour += 1;
     }
     sum
+}
+
+// B: T over the warm-up hours.
+pub(crate) fn warm_trimmed(
+    r0: &[u32],
+    r1: &[u32],
+    r2: &[u32],
+    r3: &[u32],
+    r4: &[u32],
+    hours: Hours,
+) -> u64
+    requires { ⌜ HoursIn hours ⌝ }
+    ensures { λ r. ⌜ WarmSum
+        (trimmedIn (now (r0 .entry) ∷ now (r1 .entry) ∷ now (r2 .entry) ∷ now (r3 .entry) ∷ now (r4 .entry) ∷ [])) hours r ⌝ }
+{
+    let warm = trimmed_sum(r0, r1, r2, r3, r4, hours.warm, hours.pause);
+    if hours.gap <= hours.early {
+        return warm;
+    }
+    trimmed_sum(r0, r1, r2, r3, r4, hours.early, hours.gap) + warm
+}
+
+// A: what the event's day drew in its warm-up hours.
+pub(crate) fn warm_drawn(event: &[u32], hours: Hours) -> u64
+    requires { ⌜ HoursIn hours ⌝ }
+    ensures { λ r. ⌜ WarmSum (readingAt (now (event .entry))) hours r ⌝ }
+{
+    let warm = book::sum_of(event, hours.warm, hours.pause);
+    if hours.gap <= hours.early {
+        return warm;
+    }
+    book::sum_of(event, hours.early, hours.gap) + warm
 }

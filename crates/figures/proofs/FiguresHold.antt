@@ -9,17 +9,19 @@ use Rattle.book.specs.Refusals.{badBook, bookRows}
 use Rattle.book.specs.Values.{faultOf}
 use Rattle.boundary.specs.Calls.{checkCall}
 use Rattle.wire.specs.Decoded.{decoded}
-use Rattle.calendar.specs.Answers.{easterSunday}
+use Rattle.calendar.specs.Answers.{easterSunday, forwardDay, backDay}
+use Rattle.calendar.specs.Clocks.{sundayFrom, clocksBack, clocksForward, hasHour, elapsed}
 use Rattle.calendar.specs.Easter.{noEasterYear, easterT, easterInBook}
 use Rattle.calendar.specs.Excluded.{among, goodFriday, easterMonday, excluded}
 use Rattle.calendar.specs.Weekdays.{firstWeekday, weekday, weekend}
 use Rattle.dates.specs.Winters.{noWinter, leap, days}
 use Rattle.calendar.specs.Days.{wrongWinter, noDay, inPeriod}
 use Rattle.calendar.specs.WinterOf.{winterOf}
-use Rattle.energy.specs.Asked.{warmUp, askedBy, needed}
+use Rattle.energy.specs.Asked.{askedBy, needed}
 use Rattle.energy.specs.Energy.{trimmedAt, energyOf}
 use Rattle.energy.specs.Line.{lineOf, eventRows, eventAnswer}
-use Rattle.references.specs.ReferenceDays.{freeIn, serves, before, referenceDays}
+use Rattle.references.specs.ReferenceDays.{freeIn, hasEach, serves, before, referenceDays}
+use Rattle.references.specs.WarmUp.{warmsUp, those, warmUp}
 use Rattle.energy.specs.Spared.{trialOf, aboveLimit, sparedOf}
 use Rattle.energy.specs.Trimmed.{sumOf, smallestOf, largestOf, trimmedOf}
 use Rattle.event_hours.specs.Days.{marksNone, withHours, masksTo, masksOf}
@@ -74,7 +76,8 @@ unfolding calendarFigures alsoExcluded alsoFrom easterSunday refuse noEasterYear
     noticeAt hoursOf named figuresOf outsidePeriod onExcludedDay barredWeekend isHour someBelow touches outside noHours noBand
     acrossBand badLength startsBefore sameBand overLimit noWinter
     inPeriod firstWeekday weekday weekend energyFigures sampleDay sampleBook sampleList eventAnswer eventRows lineOf askedBy warmUp hoursFrom needed placesOn
-    firstFault faultOf energyOf sumOver trimmedAt trimmedOf sumOf smallestOf largestOf sparedOf aboveLimit trialOf referenceDays before freeIn serves
+    forwardDay backDay sundayFrom clocksForward clocksBack hasHour elapsed warmsUp those
+    firstFault faultOf energyOf sumOver trimmedAt trimmedOf sumOf smallestOf largestOf sparedOf aboveLimit trialOf referenceDays before freeIn hasEach serves
     masksOf masksTo withHours marksNone hoursMask moneyFigures settlement settledBy written writtenBy refusalOf settlementTable callRows bookRows badBook
     badPrice shortOutput rowsTo lineAt centsAt sumTo eventAt roundedWorth powerFigures powerSettlement powerSettledBy
     powerWritten powerWrittenBy powerRefusal powerTable powerCallRows shortRoom wrongReferences referenceRows powerLineAt reducedAt reducedOf eventOf sparedBy

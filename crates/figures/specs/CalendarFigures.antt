@@ -3,7 +3,7 @@
 use Prim.Native.Nat.{ℕ, zero, suc}
 use mathlib.Core.Bool.{Bool, not, cond, _&&_}
 use mathlib.Core.List.{List, [], _∷_}
-use Rattle.calendar.specs.Answers.{easterSunday}
+use Rattle.calendar.specs.Answers.{easterSunday, forwardDay, backDay}
 use Rattle.calendar.specs.Excluded.{among, fixedDays, excluded}
 use Rattle.calendar.specs.WinterOf.{winterOf}
 use Rattle.dates.specs.Winters.{days}
@@ -31,4 +31,7 @@ calendarFigures =
     ∷ figure (given (145 ∷ 148 ∷ [])) (given (alsoExcluded 2026))
     ∷ figure (given (149 ∷ [])) (given (alsoExcluded 2023))
     ∷ figure (given []) (given (alsoExcluded 2027))
+    -- rule 1.19: the Sundays on which the clocks change
+    ∷ figure (given (0 ∷ [])) (backDay (winterOf 2026))
+    ∷ figure (given (133 ∷ [])) (forwardDay (winterOf 2026))
     ∷ []

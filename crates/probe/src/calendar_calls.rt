@@ -15,7 +15,7 @@ use dates::Days;
 use dates::Number;
 
 // Refusals 1 and 10, beside no value.
-const NO_WINTER: u64 = 4294967296;
+pub(crate) const NO_WINTER: u64 = 4294967296;
 
 const NO_DAY: u64 = 42949672960;
 

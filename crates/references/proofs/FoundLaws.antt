@@ -22,21 +22,21 @@ pub record Finds (ds : List ℕ) (r : Refs) : Type 0 where
   pub first : take (r .count) (r .days) ≡ ds
   pub long : length (r .days) ≡ 5
 
-module _ (w : Winter) (free : ℕ → Bool) (day : ℕ) where
+module _ (w : Winter) (free : ℕ → Bool) (day s : ℕ) where
   abbrev refs : List ℕ
-  refs = referenceDays w free day
+  refs = referenceDays w free day s
 
   -- of a book day the call gives the reference days
-  pub refs-given : BookDay w day → refsOf refs ≡ refsIn w free day
+  pub refs-given : BookDay w day → refsOf refs ≡ refsIn w free day s
   unfolding refsIn
   refs-given book-day = rw (no-fault (wrongWinter w) (noDay w day) (book-day .right) (day-there w day (book-day .there)))
 
   -- of a wrong winter, and of a day outside the book, it gives none
-  pub refs-no-winter : wrongWinter w ≡ true → refsOf [] ≡ refsIn w free day
+  pub refs-no-winter : wrongWinter w ≡ true → refsOf [] ≡ refsIn w free day s
   unfolding refsIn
   refs-no-winter wrong = rw wrong
 
-  pub refs-no-day : wrongWinter w ≡ false → noDay w day ≡ true → refsOf [] ≡ refsIn w free day
+  pub refs-no-day : wrongWinter w ≡ false → noDay w day ≡ true → refsOf [] ≡ refsIn w free day s
   unfolding refsIn
   refs-no-day right past = rw (right, past)
 
@@ -45,8 +45,8 @@ module _ (w : Winter) (free : ℕ → Bool) (day : ℕ) where
       record {
         counted = refl;
         first = take-at refs (replicate (5 - length refs) 0) (length refs) refl;
-        long = simp (length-append, length-replicate) (omega (arith, refs-few w free day));
+        long = simp (length-append, length-replicate) (omega (arith, refs-few w free day s));
       }
 
-  pub refs-found : {r : Refs} → BookDay w day → r ≡ refsIn w free day → Finds refs r
+  pub refs-found : {r : Refs} → BookDay w day → r ≡ refsIn w free day s → Finds refs r
   refs-found book-day is = rw (is, ← refs-given book-day) finds

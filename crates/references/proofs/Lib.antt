@@ -1,3 +1,7 @@
+pub mod Those
+pub mod WarmUpLaws
+pub mod LackingDay
+pub mod LateDays
 pub mod FiveFound
 pub mod FoundLaws
 pub mod KindLaws

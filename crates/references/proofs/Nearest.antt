@@ -86,24 +86,24 @@ before-met ok zero n x h t = absurd (omega arith)
 before-met ok (suc d) n x h t = met-next x d (before ok d) h (λ n l. before-met ok d n x l t) (ok d) (λ (q : x ≡ d). rw q at t) n
 
 -- the reference days
-module _ (w : Winter) (free : ℕ → Bool) (day : ℕ) where
-  pub refs-serve : Every (Passes (serves w free day) day) (referenceDays w free day)
+module _ (w : Winter) (free : ℕ → Bool) (day s : ℕ) where
+  pub refs-serve : Every (Passes (serves w free day s) day) (referenceDays w free day s)
   unfolding referenceDays
-  refs-serve = front (Passes (serves w free day) day) 5 (before (serves w free day) day) (before-pass (serves w free day) day)
+  refs-serve = front (Passes (serves w free day s) day) 5 (before (serves w free day s) day) (before-pass (serves w free day s) day)
 
-  pub refs-fall : (i j : ℕ) → i < j → j < length (referenceDays w free day)
-      → getD (referenceDays w free day) j 0 < getD (referenceDays w free day) i 0
+  pub refs-fall : (i j : ℕ) → i < j → j < length (referenceDays w free day s)
+      → getD (referenceDays w free day s) j 0 < getD (referenceDays w free day s) i 0
   unfolding referenceDays
-  refs-fall = falls-at (referenceDays w free day) (falls-front 5 (before (serves w free day) day) (before-falls (serves w free day) day))
+  refs-fall = falls-at (referenceDays w free day s) (falls-front 5 (before (serves w free day s) day) (before-falls (serves w free day s) day))
 
-  pub refs-few : length (referenceDays w free day) ≤ 5
+  pub refs-few : length (referenceDays w free day s) ≤ 5
   unfolding referenceDays
-  refs-few = omega (arith, length-take 5 (before (serves w free day) day))
+  refs-few = omega (arith, length-take 5 (before (serves w free day s) day))
 
-  pub refs-all : (d : ℕ) → d < day → serves w free day d ≡ true → (List·Memᴰ d (referenceDays w free day) → ⊥)
-      → Every (λ (r : ℕ). d < r) (referenceDays w free day) × (length (referenceDays w free day) ≡ 5)
+  pub refs-all : (d : ℕ) → d < day → serves w free day s d ≡ true → (List·Memᴰ d (referenceDays w free day s) → ⊥)
+      → Every (λ (r : ℕ). d < r) (referenceDays w free day s) × (length (referenceDays w free day s) ≡ 5)
   unfolding referenceDays
   refs-all d h t out =
-      ⊎-elim (λ (m : List·Memᴰ d (referenceDays w free day)). absurd (out m))
-      (λ (p : Every (λ (r : ℕ). d < r) (referenceDays w free day) × (length (referenceDays w free day) ≡ 5)). p)
-      (before-met (serves w free day) day 5 d h t)
+      ⊎-elim (λ (m : List·Memᴰ d (referenceDays w free day s)). absurd (out m))
+      (λ (p : Every (λ (r : ℕ). d < r) (referenceDays w free day s) × (length (referenceDays w free day s) ≡ 5)). p)
+      (before-met (serves w free day s) day 5 d h t)

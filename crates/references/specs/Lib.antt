@@ -1,2 +1,3 @@
+pub mod WarmUp
 pub mod ReferenceDays
 pub mod Search

@@ -8,6 +8,7 @@ import random
 from itertools import product
 
 from cases.checks import Case
+from cases.clock_events import EVENT_GROUPS
 from cases.event_books import (
     DAY_HOURS, EVENT_HOURS, FAULTS, FAULTY_BOOKS, LIMIT, MOST_CHANGES, RELATIONS, SOUND_BOOKS, Sums,
     bare_query, compared, drawn_query, drawn_sums, far_above_limit, leaving_free, lengths, limited,
@@ -17,6 +18,7 @@ from cases.event_books import (
 from cases.notice_lists import FAR_DAYS, FAR_HOURS, FARTHEST, every_shape, flat, hours_told
 from second import energies, notices, winters
 from second.energies import HIGHEST_READING, LONGEST_BOOK, MISSING, Query, place_of
+from second.notices import Notice
 
 WRONG_WINTERS = (0, 2009, 2099, 2**16 + 2026, 2**31 + 2026, FARTHEST)
 WRONG_DAYS = (0, 29, 152, *FAR_DAYS)
@@ -99,10 +101,10 @@ def reference_days_far_back():
     for winter, free in product(winters.WINTERS, (0, 1, 3, 4, 4, 5, 5, 5, 6, 8)):
         made = None
         while not made:
-            day = source.choice(period(winter))
-            made = leaving_free(source, winter, day, free)
+            event = Notice(source.choice(period(winter)), *source.choice(EVENT_HOURS))
+            made = leaving_free(source, winter, event, free)
         listed, left = made
-        query = bare_query(winter, flat(listed), day, source.choice(EVENT_HOURS))
+        query = bare_query(winter, flat(listed), event.day, (event.first, event.end))
         if free < 5:
             cases.append(Case(with_book(source, query, (*SOUND_BOOKS, (MISSING, 1))), "0,20,0,0"))
         else:
@@ -133,7 +135,7 @@ def lists_as_they_are():
     for winter in winters.WINTERS:
         for _ in range(6):
             day = source.choice(period(winter))
-            near = energies.serving_days(winter, (), day)[:12]
+            near = energies.days_of_kind(winter, day)[:12]
             listed = marked(source, source.choices(near, k=source.randrange(6)))
             listed += marked(source, [day] * source.randrange(3))
             listed += [unmarking(source, source.choice(near)) for _ in range(source.randrange(9))]
@@ -369,5 +371,6 @@ GROUPS = (
     ("extreme readings", extreme_readings),
     ("wrong winters, lengths, days and hours", wrong_calls),
     ("lengths of books", lengths_of_books),
+    *EVENT_GROUPS,
     ("random queries", random_queries),
 )

@@ -123,17 +123,19 @@ def drawn_query(source, winter=None, day=None, hours=None):
 
 
 def references(query):
-    return energies.reference_days(query.winter, energies.marked_days(query.numbers), query.day)
+    marked_days = energies.marked_days(query.numbers)
+    return energies.reference_days(query.winter, marked_days, query.event())
 
 
 def needed(query):
     """The hours of the needed readings as pairs (day, hour), in the order of rule 5.7."""
-    return energies.needed_hours(query.event(), references(query))
+    return energies.needed_hours(query.winter, query.event(), references(query))
 
 
 def lengths(query):
     """H and W."""
-    return len(query.event().hours()), len(energies.warm_up_hours(query.event()))
+    event = query.event()
+    return len(event.hours()), len(energies.warm_up_hours(query.winter, event))
 
 
 # Sums, and the readings that have them.
@@ -180,9 +182,9 @@ def five_readings(source, total):
     return source.sample([smallest, *middle, largest], 5)
 
 
-def readings_of(source, event, days, sums):
+def readings_of(source, winter, event, days, sums):
     """Readings of the event day and these reference days that have these sums."""
-    warm_up = energies.warm_up_hours(event)
+    warm_up = energies.warm_up_hours(winter, event)
     readings = {}
     for hours, usual, own in ((warm_up, sums.b, sums.a), (event.hours(), sums.r, sums.c)):
         usual_parts = parts(source, usual, len(hours), 3 * HIGHEST_READING)
@@ -196,7 +198,7 @@ def readings_of(source, event, days, sums):
 def settled(source, query, days, sums):
     """The query with readings of these sums, and the energy by the formula."""
     energy = formula_energy(*lengths(query), sums)
-    readings = readings_of(source, query.event(), days, sums)
+    readings = readings_of(source, query.winter, query.event(), days, sums)
     return Case(with_readings(query, readings), f"0,0,0,{energy}")
 
 
@@ -306,10 +308,10 @@ def unmarking(source, day):
     ))
 
 
-def leaving_free(source, winter, day, free):
+def leaving_free(source, winter, event, free):
     """A list that leaves so many serving days before an event free, some far back, and
     marks all the others; and the free days. None if the list would be too long."""
-    serving = energies.serving_days(winter, (), day)
+    serving = list(energies.serving_days(winter, (), event))
     if not free <= len(serving) <= MOST_NOTICES + free:
         return None
     left = source.sample(serving, free)

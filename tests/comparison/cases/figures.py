@@ -27,6 +27,8 @@ DAY_FIGURES = (
     ("day 30 is 1 December", (2026, 30, 0), "date=0,12,1"),
     ("1 November is day 0", (2026, 11, 1), "book_day=0,0"),
     ("1 November 2026 is a Sunday", (2026, 0, 0), "weekday=0,0"),
+    ("winter 2026: the clocks go back on day 0", (2026, 0, 0), "back=0,0"),
+    ("winter 2026: the clocks go forward on day 133", (2026, 0, 0), "forward=0,133"),
 )
 
 # A winter, and the days that it excludes besides the six fixed ones.
@@ -114,20 +116,52 @@ SAMPLE_READINGS = {
     38: (2500, 1000),
 }
 
-# A list, the day of an event and its reference days.
+# Hours of an event by its start, the warm-up hours first, as they are on every day but one.
+MORNING_6, MORNING_7, MORNING_8, MORNING_9, EVENING_16 = (
+    ((1, 2, 3), (6, 9)), ((2, 3, 4), (7, 10)), ((3, 4, 5), (8, 10)), ((4, 5, 6), (9, 10)),
+    ((12, 13), (16, 19)),
+)
+
+# A list, the day of an event, its hours and its reference days.
 REFERENCES = (
     (
         "winter 2026, a notice on day 34: reference 28, 27, 21, 20, 14",
-        (), 34, (28, 27, 21, 20, 14),
+        (), 34, MORNING_6, (28, 27, 21, 20, 14),
     ),
     (
         "winter 2026, day 57: reference 52, 51, 50, 47, 46",
-        (), 57, (52, 51, 50, 47, 46),
+        (), 57, MORNING_6, (52, 51, 50, 47, 46),
     ),
     (
         "winter 2026, day 57 with an event on 51: reference 52, 50, 47, 46, 45",
-        (51, 16, 17), 57, (52, 50, 47, 46, 45),
+        (51, 16, 17), 57, MORNING_6, (52, 50, 47, 46, 45),
     ),
+    (
+        "winter 2026, day 139 at 6: reference 132, 126, 125, 119, 118",
+        (), 139, MORNING_6, (132, 126, 125, 119, 118),
+    ),
+    (
+        "winter 2026, day 139 at 7: reference 132, 126, 125, 119, 118",
+        (), 139, MORNING_7, (132, 126, 125, 119, 118),
+    ),
+    (
+        "winter 2026, day 139 at 8: reference 133, 132, 126, 125, 119",
+        (), 139, MORNING_8, (133, 132, 126, 125, 119),
+    ),
+    (
+        "winter 2026, day 139 at 16: reference 133, 132, 126, 125, 119",
+        (), 139, EVENING_16, (133, 132, 126, 125, 119),
+    ),
+)
+
+# The Sunday the clocks go forward: the hours of an event there.
+CLOCK_SUNDAY = 133
+SUNDAY_HOURS = (
+    ("winter 2026, day 133 at 6: warm-up 0, 1, 3", ((0, 1, 3), (6, 9))),
+    ("winter 2026, day 133 at 7: warm-up 1, 3, 4", ((1, 3, 4), (7, 10))),
+    ("winter 2026, day 133 at 8: warm-up 3, 4, 5", MORNING_8),
+    ("winter 2026, day 133 at 9: warm-up 4, 5, 6", MORNING_9),
+    ("winter 2026, day 133 at 16: warm-up 12, 13", EVENING_16),
 )
 
 # Around the limit: C, and the energy that it gives.
@@ -200,24 +234,26 @@ def limit_case(c, energy):
     return figure_case([(38, 6, 9)], stepped_book(limit_query(c)), 18_000, line)
 
 
-def unread_line(notice):
+def unread_line(winter, notice):
     """The line of an event without readings: its first warm-up hour is missing."""
-    return 21, warm_up_places(notice)[0], 0, 0
+    return 21, warm_up_places(winter, notice)[0], 0, 0
 
 
-def reference_cases(numbers, day, references):
+def reference_cases(numbers, day, hours, references):
     """One reference day after the other: where the event day and the nearest of them have
     readings, and no other day, the next one's first needed reading is missing; with all five
     the event is settled, and so no other day is needed. An event before it lacks its own."""
-    listed = [*notices_in(numbers), (day, 6, 9)]
-    before = [unread_line(notice) for notice in listed[:-1]]
-    # R = B = 9,000, A = 3,000 and C = 0: 6R is left, and at 50,000 worth 150 cents.
-    last = [*((21, place_of(on, 1), 0, 0) for on in references), (0, 0, 54_000, 150)]
+    warm_up, (start, end) = hours
+    listed = [*notices_in(numbers), (day, start, end)]
+    before = [unread_line(2026, notice) for notice in listed[:-1]]
+    # T is 3,000 and C is 0, so D is 0 and 6R is left: 18,000 an hour, at 50,000 worth 50 cents.
+    settled = (0, 0, 18_000 * (end - start), 50 * (end - start))
+    last = [*((21, place_of(on, warm_up[0]), 0, 0) for on in references), settled]
     cases = []
     for count, line in enumerate(last):
         book = even_book(2026, MISSING)
-        for on, hour in product((day, *references[:count]), (1, 2, 3, 6, 7, 8)):
-            book[place_of(on, hour)] = 0 if on == day and hour >= 6 else 1_000
+        for on, hour in product((day, *references[:count]), (*warm_up, *range(start, end))):
+            book[place_of(on, hour)] = 0 if on == day and hour >= start else 1_000
         cases.append(figure_case(listed, book, 50_000, *before, line))
     return cases
 
@@ -234,8 +270,8 @@ def settlement_of(case):
     listed = notices_in(numbers)
     book = packed(even_book(winter, MISSING))
     query = Settle(winter, book, 50_000, packed(numbers), LINE_BYTES * (len(listed) + 2))
-    lines = map(unread_line, listed) if case.built_for == ACCEPTED else ()
-    return Case(query, (*case.built_for, *lines))
+    accepted = listed if case.built_for == ACCEPTED else ()
+    return Case(query, (*case.built_for, *(unread_line(winter, notice) for notice in accepted)))
 
 
 # 10 Wh are an energy of 180, and 7,140 Wh one of 128,520.

@@ -67,9 +67,9 @@ def drawn_savings(source, listed):
     return [Saving(source.randint(0, most), source.randint(0, most)) for _ in listed]
 
 
-def warm_up_places(notice):
+def warm_up_places(winter, notice):
     day, *_ = notice
-    return [place_of(day, hour) for hour in energies.warm_up_hours(Notice(*notice))]
+    return [place_of(day, hour) for hour in energies.warm_up_hours(winter, Notice(*notice))]
 
 
 def level_book(winter, listed, savings):
@@ -79,15 +79,15 @@ def level_book(winter, listed, savings):
     for notice, saving in zip(listed, savings):
         day, s, _ = notice
         book[place_of(day, s)] -= saving.below
-        book[warm_up_places(notice)[0]] += saving.above
+        book[warm_up_places(winter, notice)[0]] += saving.above
     return book
 
 
-def level_energies(listed, savings):
+def level_energies(winter, listed, savings):
     """The energies of a level book: 6R - 18C is 18 times `below`, and (3A - B) times 6H/W
     is 18H/W times `above`. The limit takes nothing away, since 3A - B is never above 2B."""
     return [
-        18 * below + 18 * room(notice) * above // len(warm_up_places(notice))
+        18 * below + 18 * room(notice) * above // len(warm_up_places(winter, notice))
         for notice, (below, above) in zip(listed, savings)
     ]
 
@@ -99,8 +99,9 @@ def full_mornings(source, winter):
 
 def largest_book(winter, mornings):
     """The book in which each of these mornings of four hours spares the most. At hours 1, 2
-    and 3 the usual readings come to the highest reading for each hour, so B = A."""
-    usual = {1: 3_333_334, 2: 3_333_333, 3: 3_333_333}
+    and 3 the usual readings come to the highest reading for each hour, so B = A. So they do at
+    hours 0, 1 and 3, where the clocks go forward."""
+    usual = {0: 3_333_333, 1: 3_333_334, 2: 3_333_333, 3: 3_333_333}
     own = dict.fromkeys(range(6, 10), 0)
     events = {day for day, _, _ in mornings}
     return [
@@ -114,19 +115,19 @@ def book_of_sums(source, winter, notice, sums):
     """The book for a list of this one notice in which R, B, A and C are these sums. No other
     reading is there."""
     event = Notice(*notice)
-    references = energies.reference_days(winter, {event.day}, event.day)
+    references = energies.reference_days(winter, {event.day}, event)
     book = even_book(winter, MISSING)
-    for pair, reading in readings_of(source, event, references, sums).items():
+    for pair, reading in readings_of(source, winter, event, references, sums).items():
         book[place_of(*pair)] = reading
     return book
 
 
 def needed_places(winter, listed, notice):
     """Where the book has a notice's needed readings, in the order of rule 5.7."""
-    day, *_ = notice
+    event = Notice(*notice)
     with_events = {on for on, _, _ in listed}
-    references = energies.reference_days(winter, with_events, day)
-    return [place_of(*pair) for pair in energies.needed_hours(Notice(*notice), references)]
+    references = energies.reference_days(winter, with_events, event)
+    return [place_of(*pair) for pair in energies.needed_hours(winter, event, references)]
 
 
 def first_fault(winter, book, listed, notice):

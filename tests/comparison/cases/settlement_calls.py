@@ -65,7 +65,7 @@ def built_lines(lines, price):
 def level_case(source, winter, listed, price, savings=None, spare=None):
     """A call whose lines are known: the settlement of a level book."""
     savings = savings or drawn_savings(source, listed)
-    lines = [(0, 0, energy) for energy in level_energies(listed, savings)]
+    lines = [(0, 0, energy) for energy in level_energies(winter, listed, savings)]
     book = packed(level_book(winter, listed, savings))
     query = settle(source, winter, book, price, listed, spare)
     return Case(query, built_lines(lines, price))
@@ -78,7 +78,7 @@ def drawn_list(source, winter):
 def trial_case(source, winter, notice, relation, trial):
     """A call with one notice whose trial is this one, with A and B in that relation; None if
     there is no such."""
-    h, w = room(notice), len(warm_up_places(notice))
+    h, w = room(notice), len(warm_up_places(winter, notice))
     sums = sums_for(source, h, w, relation, unlimited, trial)
     if not sums:
         return None
@@ -96,7 +96,7 @@ def faulty_case(source, winter, listed, price, faulty):
     for place, number in faulty.items():
         book[place] = number
     found = [first_fault(winter, book, listed, notice) for notice in listed]
-    amounts = level_energies(listed, savings)
+    amounts = level_energies(winter, listed, savings)
     lines = [
         (code, place, 0 if code else energy) for (code, place), energy in zip(found, amounts)
     ]

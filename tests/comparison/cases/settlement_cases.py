@@ -10,6 +10,7 @@ from itertools import product
 
 from cases.calls import LINE_BYTES, LONGEST_PART, Check
 from cases.checks import ACCEPTED, Case
+from cases.clock_calls import CALL_GROUPS
 from cases.event_books import EVENT_HOURS, FAULTS, FAULTY_BOOKS, LIMIT, RELATIONS, far_above_limit
 from cases.notice_lists import (
     FARTHEST, WAYS, a_few, beside_excluded_days, empty_list, first_and_last_days, flat,
@@ -370,7 +371,7 @@ def fullest_cases(source, winter, listed):
         if place // HOURS not in read:
             book[place] = MISSING
     price = drawn_price(source)
-    lines = [(0, 0, energy) for energy in level_energies(listed, savings)]
+    lines = [(0, 0, energy) for energy in level_energies(winter, listed, savings)]
     yield Case(settle(source, winter, packed(book), price, listed), built_lines(lines, price))
 
     code, fault = source.choice(((21, MISSING), (22, HIGHEST_READING + 1)))
@@ -379,7 +380,7 @@ def fullest_cases(source, winter, listed):
     lines = []
     for notice in listed:
         fifth = serve[weekend_day(winter, notice[0])][4]
-        lines.append((code, HOURS * fifth + warm_up_places(notice)[0] % HOURS, 0))
+        lines.append((code, HOURS * fifth + warm_up_places(winter, notice)[0] % HOURS, 0))
     yield Case(settle(source, winter, packed(book), price, listed), built_lines(lines, price))
 
 
@@ -436,5 +437,6 @@ GROUPS = (
     ("the largest energies", largest_energies),
     ("events on as many days as can be", most_event_days),
     ("faulty books", faulty_books),
+    *CALL_GROUPS,
     ("random settlements", random_settlements),
 )

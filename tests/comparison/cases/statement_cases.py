@@ -10,6 +10,7 @@ from itertools import compress, pairwise, product
 
 from cases import settlement_cases as calls
 from cases.checks import ACCEPTED, Case
+from cases.clock_calls import faults_beside_the_hour, lists_around_the_sunday
 from cases.event_books import stepped_book
 from cases.figures import sample_query
 from cases.notice_lists import (
@@ -56,6 +57,8 @@ CALLS = (
     ("the largest energies", calls.largest_energies, 12),
     ("events on as many days as can be", calls.most_event_days, 30),
     ("faulty books", calls.faulty_books, 40),
+    ("lists around the Sunday the clocks go forward", lists_around_the_sunday, 40),
+    ("faults beside hour 2 of that Sunday", faults_beside_the_hour, 20),
 )
 
 # The sample's settlement. It lists just the readings that its event needs.

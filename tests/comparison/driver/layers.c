@@ -123,6 +123,8 @@ static void answer_days(void)
         printf("%" PRIu32 ",%" PRIu32 ",%" PRIu32, w, a, b);
         put_answer("days", probe_days(w));
         put_pair("easter", probe_easter(w));
+        put_answer("forward", probe_forward(w));
+        put_answer("back", probe_back(w));
         put_answer("weekday", probe_weekday(w, a));
         put_kind(probe_kind(w, a));
         put_pair("date", probe_date(w, a));

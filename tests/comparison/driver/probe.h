@@ -10,6 +10,8 @@
 
 uint64_t probe_days(uint32_t winter);
 uint64_t probe_easter(uint32_t year); /* month and day */
+uint64_t probe_forward(uint32_t winter); /* the book day of the Sunday the clocks go forward, and of that they go back */
+uint64_t probe_back(uint32_t winter);
 uint64_t probe_weekday(uint32_t winter, uint32_t day);
 uint64_t probe_kind(uint32_t winter, uint32_t day); /* three bits: in the winter period, a weekend day, excluded */
 uint64_t probe_date(uint32_t winter, uint32_t day); /* month and day */

@@ -9,9 +9,10 @@ names the entry of docs/DECISIONS.md that settles it.
 from collections import defaultdict
 from fractions import Fraction
 from functools import cache, lru_cache, partial
+from itertools import islice
 from typing import NamedTuple
 
-from second import notices, winters
+from second import clocks, notices, winters
 from second.notices import PROFILES, Notice
 
 HOURS = winters.HOURS
@@ -24,7 +25,8 @@ REFERENCE_DAYS = 5
 LIMIT_WH = 40_000
 EIGHTEENTHS = 18
 
-# How long before its start an event's warm-up hours are, by the band that it is in.
+# How many elapsed hours before its start an event's warm-up hours begin, by the band that it
+# is in.
 MORNING, EVENING = PROFILES[1].bands
 WARM_UP = {MORNING: (5, 4, 3), EVENING: (4, 3)}
 
@@ -142,8 +144,11 @@ def marked_days(numbers):
     return frozenset(day for day, hours in marked_hours(numbers).items() if hours)
 
 
-def warm_up_hours(event):
-    return [event.first - before for before in WARM_UP[notices.band_of(PROFILES[1], event)]]
+def warm_up_hours(winter, event):
+    """The warm-up hours by the clock, counted back over the hours that the event's day has."""
+    on = winters.book_dates(winter)[event.day]
+    elapsed = WARM_UP[notices.band_of(PROFILES[1], event)]
+    return tuple(clocks.earlier(on, event.first, before) for before in elapsed)
 
 
 @cache
@@ -158,21 +163,27 @@ def days_of_kind(winter, day):
     ]
 
 
-def serving_days(winter, with_events, day):
-    """Those of them that are no day with an event."""
-    return [before for before in days_of_kind(winter, day) if before not in with_events]
+def serving_days(winter, with_events, event):
+    """Those of them that serve the event: no event is on them, and each of its warm-up hours is
+    one of their own, which it may not be where the clocks are changed."""
+    warm_up = warm_up_hours(winter, event)
+    dates = winters.book_dates(winter)
+    for before in days_of_kind(winter, event.day):
+        if before not in with_events and clocks.has_hours(dates[before], warm_up):
+            yield before
 
 
-def reference_days(winter, with_events, day):
+def reference_days(winter, with_events, event):
     """The nearest of them, as many as are asked for, or all if there are fewer."""
-    return serving_days(winter, with_events, day)[:REFERENCE_DAYS]
+    return list(islice(serving_days(winter, with_events, event), REFERENCE_DAYS))
 
 
-def needed_hours(event, references):
+def needed_hours(winter, event, references):
     """The hours of the needed readings, as pairs (day, hour) in their order: on the event day
     the warm-up before the event, each from its first hour on, and so on each reference day,
-    back from the nearest."""
-    hours = sorted(warm_up_hours(event)) + sorted(event.hours())
+    back from the nearest. A reference day is read at the hours that the clock showed on the
+    event's."""
+    hours = sorted(warm_up_hours(winter, event)) + sorted(event.hours())
     return [(day, hour) for day in (event.day, *references) for hour in hours]
 
 
@@ -191,13 +202,13 @@ def usual(readings, references, hour):
     return average(middle)
 
 
-def spared_energy(event, references, readings):
+def spared_energy(event, warm_up, references, readings):
     """What the event spared: the usual readings of its hours, adjusted by as much as each
     warm-up hour was above the usual on average, less its own readings."""
     usual_event = sum(usual(readings, references, hour) for hour in event.hours())
     own_event = sum(readings[event.day, hour] for hour in event.hours())
-    usual_warm_up = average(usual(readings, references, hour) for hour in warm_up_hours(event))
-    own_warm_up = average(readings[event.day, hour] for hour in warm_up_hours(event))
+    usual_warm_up = average(usual(readings, references, hour) for hour in warm_up)
+    own_warm_up = average(readings[event.day, hour] for hour in warm_up)
 
     def adjusted(by):
         return usual_event + by * len(event.hours()) - own_event
@@ -249,16 +260,18 @@ def first_fault(readings):
     return next((found for found in faults if found[0]), (0, 0))
 
 
-def event_answer(event, references, readings_of):
+def event_answer(winter, event, with_events, readings_of):
     """The answer to an event; `readings_of` gives the readings at pairs (day, hour), which are
     looked at only where there are enough reference days. The first fault among them decides."""
+    references = reference_days(winter, with_events, event)
     if len(references) < REFERENCE_DAYS:
         return Answer(0, code=20)
-    readings = readings_of(needed_hours(event, references))
+    readings = readings_of(needed_hours(winter, event, references))
     code, place = first_fault(readings)
     if code:
         return Answer(0, code, place)
-    return Answer(0, spared=spared_energy(event, references, readings))
+    warm_up = warm_up_hours(winter, event)
+    return Answer(0, spared=spared_energy(event, warm_up, references, readings))
 
 
 def answer(query):
@@ -266,9 +279,8 @@ def answer(query):
     number = refusal(query)
     if number:
         return Answer(number)
-    event = query.event()
-    references = reference_days(query.winter, marked_days(query.numbers), event.day)
-    return event_answer(event, references, partial(readings_at, query))
+    with_events = marked_days(query.numbers)
+    return event_answer(query.winter, query.event(), with_events, partial(readings_at, query))
 
 
 def energy_of(given):

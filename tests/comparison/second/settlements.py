@@ -131,8 +131,7 @@ def event_answers(winter, book, listed):
     """What the energy's rules say of each notice of an accepted list."""
     with_events = energies.days_with_events(listed)
     for notice in listed:
-        references = energies.reference_days(winter, with_events, notice.day)
-        yield energies.event_answer(notice, references, partial(readings_in, book))
+        yield energies.event_answer(winter, notice, with_events, partial(readings_in, book))
 
 
 def settled(winter, book, price, listed):

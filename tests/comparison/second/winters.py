@@ -9,13 +9,15 @@ names the entry of docs/DECISIONS.md that settles it.
 from datetime import date, timedelta
 from functools import cache
 
+from second import clocks
+from second.clocks import SUNDAY
+
 WINTERS = range(2010, 2099)
 EASTER_YEARS = range(2011, 2100)
 
 WRONG_WINTER = 1
 WRONG_DAY = 10
 
-SUNDAY = 7
 SATURDAY = 6
 ONE_DAY = timedelta(1)
 
@@ -27,7 +29,8 @@ PASCHAL_FULL_MOONS = (
     (3, 25), (4, 13), (4, 2), (3, 22), (4, 10), (3, 30), (4, 17), (4, 7), (3, 27),
 )
 
-HOURS = 24
+# The book has a number for each hour that a clock can show, whatever hours its date has.
+HOURS = len(clocks.BY_THE_CLOCK)
 LONGEST_BOOK = 3648
 
 
@@ -84,6 +87,23 @@ def easter(year):
         return WRONG_WINTER, ()
     on = easter_sunday(year)
     return 0, (on.month, on.day)
+
+
+def day_of_sunday(winter, tell):
+    """The book day of the Sunday that `tell` names; 1 where there is no such winter."""
+    if winter not in WINTERS:
+        return WRONG_WINTER, ()
+    return 0, (book_dates(winter).index(tell()),)
+
+
+def forward(winter):
+    """The Sunday the clocks go forward, which is in the winter's later year: rule 1.19."""
+    return day_of_sunday(winter, lambda: clocks.goes_forward(winter + 1))
+
+
+def back(winter):
+    """The Sunday the clocks go back, which is in its earlier one: rule 1.19."""
+    return day_of_sunday(winter, lambda: clocks.goes_back(winter))
 
 
 def told_of_day(winter, day, tell):
@@ -162,6 +182,8 @@ def line(w, a, b):
     fields = {
         "days": numbered(days(w)),
         "easter": numbered(easter(w)),
+        "forward": numbered(forward(w)),
+        "back": numbered(back(w)),
         "weekday": numbered(weekday(w, a)),
         "kind": numbered(kind(w, a)),
         "date": numbered(date_of_day(w, a)),

@@ -2,11 +2,12 @@
 -- Assumes nothing.
 use borrow.Author.Needs.{needs}
 use mathlib.Core.Path.{refl}
+use native.Mathlib.Omega.{arith}
 use Rattle.laws.proofs.Guards.{found}
 use Rattle.laws.proofs.Refusals.{refused}
 use Rattle.calendar.specs.Answers.{dayKind}
 use Rattle.calendar.proofs.FactLaws.{no-kind, kind-given}
-use Rattle.calendar.proofs.Promise.{day-there}
+use Rattle.calendar.proofs.Promise.{days-few, day-there}
 use Rattle.calendar.proofs.kinds.kind_of.Statement.{statement}
 use Rattle.calendar.proofs.kinds.kind_of.Tie as tie
 
@@ -21,7 +22,9 @@ returns-2 : tie.Need-returns-2
 returns-2 c = no-kind _ _ (found (c .before .before .before .wrong-winter .ensures) (c .before .before .if1 .left)) (c .if2 .taken)
 
 is-weekend-requires : tie.Need-is-weekend-requires
-is-weekend-requires c κs = search needs
+is-weekend-requires c κs =
+    let right = c .before .before .before in
+    omega (arith, c .before .if2 .left, days-few _ (found (right .before .wrong-winter .ensures) (right .if1 .left)))
 
 is-excluded-requires : tie.Need-is-excluded-requires
 is-excluded-requires c κs = day-there _ _ (c .before .before .if2 .left)

@@ -1,10 +1,15 @@
 -- `weekday_of` answers 1 for no winter, then 10 for no book day, else the weekday.
 -- Assumes nothing.
+use mathlib.Core.Path.{ap}
+use native.Mathlib.Omega.{arith}
 use borrow.Author.Needs.{needs}
+use Rattle.dates.proofs.Promise.{days-range}
 use Rattle.laws.proofs.Refusals.{refused}
 use Rattle.calendar.specs.Answers.{weekdayOf}
+use Rattle.calendar.specs.declared.answers.Winter.{Winter}
 use Rattle.calendar.proofs.FactLaws.{no-weekday, weekday-given}
 use Rattle.calendar.proofs.Answered.{no-winter-known, winter-known}
+use Rattle.calendar.proofs.Promise.{facts-days}
 use Rattle.calendar.proofs.weekdays.weekday_of.Statement.{statement}
 use Rattle.calendar.proofs.weekdays.weekday_of.Tie as tie
 
@@ -28,7 +33,11 @@ returns-2 c =
     no-weekday _ _ _ (is .0) (is .1) (c .if1 .taken)
 
 weekday-in-requires : tie.Need-weekday-in-requires
-weekday-in-requires c κs = search needs
+weekday-in-requires c κs =
+    let known = c .before .before .before in
+    let winter = known .before .before .before .args .winter in
+    let is = winter-known _ _ _ (known .known .given .1) (known .before .before .winter-of .ensures) in
+    omega (arith, c .if1 .left, ap (λ (w : Winter). w .days) (is .1), facts-days winter, days-range winter)
 
 returns-3 : tie.Need-returns-3
 returns-3 c =

@@ -13,7 +13,7 @@ returns : tie.Need-returns
 returns c =
     let looked = c .before .before in
     let called = looked .before .before in
-    let found = refs-found _ _ _ (called .pre .book-day) (looked .reference-days .ensures) in
+    let found = refs-found _ _ _ _ (called .pre .book-day) (looked .reference-days .ensures) in
     line-few _ _ _ _ found _ (c .if1 .taken)
 
 hours-of-requires : tie.Need-hours-of-requires
@@ -24,7 +24,7 @@ line-of-days-requires c κs =
     let enough = c .before in
     let looked = enough .before .before in
     let called = looked .before .before in
-    let found = refs-found _ _ _ (called .pre .book-day) (looked .reference-days .ensures) in
+    let found = refs-found _ _ _ _ (called .pre .book-day) (looked .reference-days .ensures) in
     parts-ready _ _ (called .args .n) _ found (enough .if1 .left) _ (c .hours-of .ensures) _ (called .pre .day-there)
 
 returns-2 : tie.Need-returns-2
@@ -33,7 +33,7 @@ returns-2 c =
     let enough = hours .before in
     let looked = enough .before .before in
     let called = looked .before .before in
-    let found = refs-found _ _ _ (called .pre .book-day) (looked .reference-days .ensures) in
+    let found = refs-found _ _ _ _ (called .pre .book-day) (looked .reference-days .ensures) in
     line-five _ _ (called .args .n) _ found (enough .if1 .left) _ (hours .hours-of .ensures) _ (c .line-of-days .ensures)
 
 pub line-in-spec : {M : Type 1} → statement M

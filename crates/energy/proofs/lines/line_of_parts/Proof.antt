@@ -11,11 +11,11 @@ use Rattle.energy.proofs.lines.line_of_parts.Tie as tie
 energy-requires : tie.Need-energy-requires
 energy-requires c κs = search needs
 
+warm-readings-requires : tie.Need-warm-readings-requires
+warm-readings-requires c κs = search needs
+
 all-readings-requires : tie.Need-all-readings-requires
 all-readings-requires c κs = search needs
-
-all-readings-requires-2 : tie.Need-all-readings-requires-2
-all-readings-requires-2 c κs = search needs
 
 by-fault-requires : tie.Need-by-fault-requires
 by-fault-requires c κs = search needs
@@ -25,10 +25,10 @@ returns c =
     let test = c .before in
     let own = test .before in
     let warm = own .before in
-    let readings = both (warm .all-readings .result) (own .all-readings2 .result) (test .if1 .taken) in
+    let readings = both (warm .warm-readings .result) (own .all-readings .result) (test .if1 .taken) in
     c .by-fault .ensures
-    ∙ clean-line _ _ _ _ _ (warm .before .energy .ensures) (found (warm .all-readings .ensures) (readings .0))
-    (found (own .all-readings2 .ensures) (readings .1))
+    ∙ clean-line _ _ _ _ _ (warm .before .energy .ensures) (found (warm .warm-readings .ensures) (readings .0))
+    (found (own .all-readings .ensures) (readings .1))
 
 needed-fault-requires : tie.Need-needed-fault-requires
 needed-fault-requires c κs = search needs
@@ -48,8 +48,8 @@ line-of-parts-spec =
     tie.close
     (tie.spec
     energy-requires
+    warm-readings-requires
     all-readings-requires
-    all-readings-requires-2
     by-fault-requires
     returns
     needed-fault-requires

@@ -35,18 +35,18 @@ returns : tie.Need-returns
 returns c =
     let told = c .before .before in
     let on-day = told-day _ _ _ _ (told .kind .given .1) (told .before .before .kind-of .ensures) in
-    c .nearest-before .ensures ∙ refs-given _ _ _ (on-day .day)
+    c .nearest-before .ensures ∙ refs-given _ _ _ _ (on-day .day)
 
 returns-2 : tie.Need-returns-2
 returns-2 c =
     let told = c .before in
-    c .no-refs .ensures ∙ refs-no-winter _ _ _ (wrong-known _ _ _ (told .enum-told .given .1) (told .before .before .kind-of .ensures))
+    c .no-refs .ensures ∙ refs-no-winter _ _ _ _ (wrong-known _ _ _ (told .enum-told .given .1) (told .before .before .kind-of .ensures))
 
 returns-3 : tie.Need-returns-3
 returns-3 c =
     let told = c .before in
     let outside = told-past _ _ _ (told .enum-told2 .given .1) (told .before .before .kind-of .ensures) in
-    c .no-refs2 .ensures ∙ refs-no-day _ _ _ (outside .right) (outside .past)
+    c .no-refs2 .ensures ∙ refs-no-day _ _ _ _ (outside .right) (outside .past)
 
 pub reference-days-spec : {M : Type 1} → statement M
 reference-days-spec =
