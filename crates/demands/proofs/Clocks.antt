@@ -25,7 +25,9 @@ use Rattle.laws.proofs.Every.{Every, imply}
 use Rattle.notices.proofs.HourLaws.{Inside}
 use Rattle.notices.specs.Notices.{countOf}
 use Rattle.notices.specs.Profiles.{credit}
+use Rattle.notices.specs.Sane.{PartOf}
 use Rattle.notices.specs.declared.notices.Notice.{Notice}
+use Rattle.notices.specs.declared.profiles.Band.{Band}
 use Rattle.notices.specs.declared.profiles.Figures.{Figures}
 use Rattle.references.proofs.FiveFound.{first-week-unread}
 use Rattle.references.proofs.ReferenceLaws.{zero-free}
@@ -102,16 +104,18 @@ module _ {y : ℕ} {f : Figures} {l : List ℕ} (st : Standing y f l) (n : Notic
 
   pub in-credit-band : Spans (n .start) (n .end)
   in-credit-band =
-      let some = stands .some-hour in
-      let bands = st .bands in
-      ⊎-elim
-      (λ (i : Inside (f .morning) n).
-      let p = bands .morning in
-      record { late = omega (arith, p .from, i .from); some-hour = some; few = omega (arith, p, i); in-day = omega (arith, p .to, i .to) })
-      (λ (i : Inside (f .evening) n).
-      let p = bands .evening in
-      record { late = omega (arith, p .from, i .from); some-hour = some; few = omega (arith, p, i); in-day = omega (arith, p .to, i .to) })
+      ⊎-elim (λ (i : Inside (f .morning) n). within (st .bands .morning) i (omega arith) (omega arith) (omega arith))
+      (λ (i : Inside (f .evening) n). within (st .bands .evening) i (omega arith) (omega arith) (omega arith))
       (stands .in-band)
+    where
+      within : {whole part : Band} → PartOf whole part → Inside part n → 6 ≤ whole .start → whole .end ≤ 20 → whole .end ≤ whole .start + 4
+          → Spans (n .start) (n .end)
+      within p i late in-day few = record {
+        late = omega (arith, p .from, i .from);
+        some-hour = stands .some-hour;
+        few = omega (arith, p .from, p .to, i .from, i .to);
+        in-day = omega (arith, p .to, i .to);
+      }
 
   later-than-back : (d : ℕ) → 7 ≤ d → d ≡ clocksBack winter → ⊥
   later-than-back d b e = omega (arith, back-sunday winter .in-week)

@@ -18,7 +18,8 @@ use Rattle.calendar.specs.declared.answers.Change.the-variants.{On}
 use Rattle.calendar.specs.declared.answers.Change.{Change}
 use Rattle.calendar.specs.declared.answers.Winter.{Winter}
 use Rattle.laws.proofs.Guards.{both, neither}
-use Rattle.references.proofs.WarmUpLaws.{ahead-range, around-passed, warm-run}
+use Rattle.references.proofs.Ahead.{ahead-range}
+use Rattle.references.proofs.WarmUpLaws.{around-passed, warm-run}
 use Rattle.references.specs.WarmUp.{longestAhead}
 use Rattle.energy.specs.HoursOf.{Spans, HoursFor, isSplit}
 

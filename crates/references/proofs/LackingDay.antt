@@ -25,7 +25,8 @@ use Rattle.laws.proofs.Guards.{both, neither}
 use Rattle.references.specs.ReferenceDays.{hasEach}
 use Rattle.references.specs.Search.{noneLacks, lackingDay, BookDay}
 use Rattle.references.specs.WarmUp.{longestAhead, warmUp}
-use Rattle.references.proofs.WarmUpLaws.{morning-ahead, ahead-range, usual-hours}
+use Rattle.references.proofs.Ahead.{morning-ahead, ahead-range}
+use Rattle.references.proofs.WarmUpLaws.{usual-hours}
 
 -- a day has some hours: each of them
 module _ (w : Winter) (d : ℕ) where

@@ -1,4 +1,5 @@
 pub mod Those
+pub mod Ahead
 pub mod WarmUpLaws
 pub mod LackingDay
 pub mod LateDays

@@ -2,68 +2,25 @@
 -- ends two hours before the start; there the starts 6 and 7 have two runs, before and behind the hour that is passed over.
 -- Assumes nothing.
 use Prim.Native.Nat.{ℕ, _+_, _-_, _≤_, _<_}
-use mathlib.Core.Bool.{Bool, true, false, cond, _&&_}
+use mathlib.Core.Bool.{Bool, true, false}
 use mathlib.Core.List.{List, _++_}
 use mathlib.Core.Logic.{⊎-elim}
 use mathlib.Core.Path.{_≡_, refl}
 use native.Mathlib.Nat.{eq-or-lt-of-le}
 use native.Mathlib.Omega.{arith}
-use lib.Dec.{leb, ltb, eqb}
+use lib.Dec.{eqb}
 use lib.ListN.{length, length-append}
-use borrow.Author.Tests.{le-leb, lt-leb, lt-ltb, le-ltb, eqb-true, eqb-false}
+use borrow.Author.Tests.{eqb-true, eqb-false}
 use Rattle.book.proofs.RunLaws.{run-each, run-split, run-long}
 use Rattle.book.specs.Places.{run}
 use Rattle.calendar.proofs.ClockLaws.{every-hour, other-hour, no-hour, elapsed-clock, elapsed-over}
 use Rattle.calendar.specs.Clocks.{clocksForward, passedHour, hasHour, elapsed}
 use Rattle.calendar.specs.declared.answers.Winter.{Winter}
 use Rattle.laws.proofs.Every.{Every, imply}
-use Rattle.laws.proofs.Guards.{both}
 use Rattle.laws.proofs.Order.{either-order}
-use Rattle.notices.specs.Profiles.{credit}
-use Rattle.references.specs.WarmUp.{longestAhead, shortestAhead, warmsUp, warmUp}
+use Rattle.references.specs.WarmUp.{longestAhead, warmsUp, warmUp}
+use Rattle.references.proofs.Ahead.{morning-ahead, ahead-range, warms, too-early, too-late, lacking, warms-there}
 use Rattle.references.proofs.Those.{those-split, those-each, those-pass, one-run}
-
--- how far ahead the first warm-up hour is, by the band
-pub morning-ahead : (s : ℕ) → s < credit .evening .start → longestAhead s ≡ 5
-morning-ahead s b = rw (lt-ltb s (credit .evening .start) b)
-
-pub evening-ahead : (s : ℕ) → credit .evening .start ≤ s → longestAhead s ≡ 4
-evening-ahead s b = rw (le-ltb s (credit .evening .start) b)
-
-pub ahead-range : (s : ℕ) → (4 ≤ longestAhead s) × (longestAhead s ≤ 5)
-ahead-range s = by (ltb s (credit .evening .start))
-  where
-    by : (b : Bool) → (4 ≤ cond b 5 4) × (cond b 5 4 ≤ 5)
-    by true = omega arith
-    by false = omega arith
-
--- an hour by how many elapsed hours it is ahead
-module _ (w : Winter) (day s h : ℕ) where
-  warms : hasHour w day h ≡ true → shortestAhead ≤ elapsed w day h s → elapsed w day h s ≤ longestAhead s → warmsUp w day s h ≡ true
-  unfolding warmsUp
-  warms has late early = rw (has, le-leb shortestAhead (elapsed w day h s) late, le-leb (elapsed w day h s) (longestAhead s) early)
-
-  too-early : longestAhead s < elapsed w day h s → warmsUp w day s h ≡ false
-  unfolding warmsUp
-  too-early b = rw (lt-leb (elapsed w day h s) (longestAhead s) b) (none (hasHour w day h) (leb shortestAhead (elapsed w day h s)))
-    where
-      none : (a b : Bool) → (a && b && false) ≡ false
-      none true true = refl
-      none true false = refl
-      none false true = refl
-      none false false = refl
-
-  too-late : elapsed w day h s < shortestAhead → warmsUp w day s h ≡ false
-  unfolding warmsUp
-  too-late b = rw (lt-leb shortestAhead (elapsed w day h s) b) (none (hasHour w day h))
-    where
-      none : (a : Bool) → (a && false && leb (elapsed w day h s) (longestAhead s)) ≡ false
-      none true = refl
-      none false = refl
-
-  lacking : hasHour w day h ≡ false → warmsUp w day s h ≡ false
-  unfolding warmsUp
-  lacking e = rw e
 
 -- a day that has every hour: by the clock
 module _ (w : Winter) (day s : ℕ) (other : day ≡ clocksForward w → ⊥) where
@@ -162,10 +119,8 @@ warm-long w day s least = by (eqb day (clocksForward w)) refl
 
 -- each is an hour that the day has
 pub warm-there : (w : Winter) (day s : ℕ) → Every (λ (h : ℕ). hasHour w day h ≡ true) (warmUp w day s)
-unfolding warmUp warmsUp
-warm-there w day s =
-    imply _ _ (λ h t. both (hasHour w day h) _ (both (hasHour w day h && leb shortestAhead (elapsed w day h s)) _ t .0) .0) (warmUp w day s)
-    (those-pass (warmsUp w day s) (run 0 s))
+unfolding warmUp
+warm-there w day s = imply _ _ (λ h t. warms-there w day s h t) (warmUp w day s) (those-pass (warmsUp w day s) (run 0 s))
 
 pub warm-before : (w : Winter) (day s : ℕ) → Every (λ (h : ℕ). h < s) (warmUp w day s)
 unfolding warmUp

@@ -2,7 +2,7 @@
 -- later before an evening event.
 -- Assumes nothing.
 use Rattle.laws.proofs.Guards.{found}
-use Rattle.references.proofs.WarmUpLaws.{morning-ahead, evening-ahead}
+use Rattle.references.proofs.Ahead.{morning-ahead, evening-ahead}
 use Rattle.energy.proofs.SplitHours.{split-hours, whole-hours}
 use borrow.Author.Needs.{needs}
 use native.Mathlib.Omega.{arith}
