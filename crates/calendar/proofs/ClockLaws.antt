@@ -15,9 +15,10 @@ use Rattle.laws.proofs.Refusals.{kept}
 use Rattle.laws.specs.Answer.{given, refusal, bit}
 use Rattle.calendar.specs.Answers.{forwardDay, backDay}
 use Rattle.calendar.specs.Clocks.{sundayFrom, clocksBack, clocksForward, passedHour, hasHour, elapsed}
-use Rattle.calendar.specs.Days.{wrongWinter, marchFirst}
+use Rattle.calendar.specs.Days.{wrongWinter, marchFirst, marchEighth}
 use Rattle.calendar.specs.Weekdays.{weekday}
 use Rattle.calendar.specs.declared.answers.Winter.{Winter}
+use Rattle.calendar.proofs.Promise.{days-few}
 
 -- a Sunday of the week that begins with a day
 pub record SundayOf (w : Winter) (first d : ℕ) : Type 0 where
@@ -33,11 +34,12 @@ pub back-sunday : (w : Winter) → SundayOf w 0 (clocksBack w)
 unfolding clocksBack
 back-sunday w = sunday-of w 0
 
-pub forward-sunday : (w : Winter) → wrongWinter w ≡ false → SundayOf w (marchFirst (w .days) + 7) (clocksForward w)
+pub forward-sunday : (w : Winter) → wrongWinter w ≡ false → SundayOf w (marchEighth (w .days)) (clocksForward w)
 unfolding clocksForward weekday
 forward-sunday w right =
     let s = sunday-of w (marchFirst (w .days)) in
-    record { is-sunday = omega (arith, s .is-sunday); not-before = omega (arith, s .not-before); in-week = omega (arith, s .in-week) }
+    let n = days-few w right in
+    record { is-sunday = omega (arith, s .is-sunday); not-before = omega (arith, s .not-before, n); in-week = omega (arith, s .in-week, n) }
 
 -- in which no difference of the calls and no sum wraps
 pub weekday-few : (w : Winter) (d : ℕ) {n : ℕ} → n ≡ weekday w d → n ≤ 7

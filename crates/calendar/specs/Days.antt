@@ -21,3 +21,7 @@ inPeriod w d = leb (w .december) d && ltb d (w .days)
 -- 1 March of a book of n days: 31 March is its last, day n - 1 (rule 1.5)
 abbrev pub marchFirst : ℕ → ℕ
 marchFirst n = n - 31
+
+-- and 8 March, with which its second week begins (rule 1.19)
+abbrev pub marchEighth : ℕ → ℕ
+marchEighth n = n - 24

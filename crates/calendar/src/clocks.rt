@@ -11,6 +11,9 @@ use crate::winters::wrong_winter;
 // The hour that the clocks pass over on the Sunday they go forward.
 pub const PASSED_HOUR: u32 = 2;
 
+// So many days a book has from 8 March on, with which that Sunday's week begins: before it no day need be compared with the Sunday.
+pub const DAYS_FROM_8_MARCH: u32 = 24;
+
 // The first Sunday from a day on.
 fn sunday_from(w: Winter, day: u32) -> u32
     requires { ⌜ day ≤ 152 ⌝ }

@@ -14,6 +14,7 @@ pub use answers::Kind;
 pub use answers::Known;
 pub use answers::Sunday;
 pub use answers::Winter;
+pub use clocks::DAYS_FROM_8_MARCH;
 pub use clocks::PASSED_HOUR;
 pub use clocks::clocks_back;
 pub use clocks::clocks_forward;

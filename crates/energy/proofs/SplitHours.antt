@@ -10,10 +10,9 @@ use borrow.Author.Tests.{le-leb, lt-leb, leb-true, leb-false, ltb-true, ltb-fals
 use Rattle.book.proofs.RunLaws.{run-from, run-none}
 use Rattle.calendar.proofs.Answered.{forward-on}
 use Rattle.calendar.proofs.ClockLaws.{forward-sunday}
-use Rattle.calendar.proofs.Promise.{days-few}
 use Rattle.calendar.specs.Answers.{changePaper, forwardDay}
 use Rattle.calendar.specs.Clocks.{clocksForward, passedHour}
-use Rattle.calendar.specs.Days.{wrongWinter}
+use Rattle.calendar.specs.Days.{wrongWinter, marchEighth}
 use Rattle.calendar.specs.declared.answers.Change.the-variants.{On}
 use Rattle.calendar.specs.declared.answers.Change.{Change}
 use Rattle.calendar.specs.declared.answers.Winter.{Winter}
@@ -40,7 +39,7 @@ module _ (w : Winter) (day s : ℕ) where
       by false z = refl
 
   -- as the code finds it: never of a late start or an early day, else by the calendar's answer r
-  pub never-split : wrongWinter w ≡ false → (ltb (passedHour + 5) s || ltb day (w .days - 24)) ≡ true → false ≡ isSplit w day s
+  pub never-split : wrongWinter w ≡ false → (ltb (passedHour + 5) s || ltb day (marchEighth (w .days))) ≡ true → false ≡ isSplit w day s
   unfolding isSplit
   never-split right e = by (ltb (passedHour + 5) s) refl e
     where
@@ -48,18 +47,18 @@ module _ (w : Winter) (day s : ℕ) where
       and-false true = refl
       and-false false = refl
 
-      by : (b : Bool) → ltb (passedHour + 5) s ≡ b → (b || ltb day (w .days - 24)) ≡ true → false ≡ (leb s (passedHour + 5) && eqb day (clocksForward w))
+      by : (b : Bool) → ltb (passedHour + 5) s ≡ b → (b || ltb day (marchEighth (w .days))) ≡ true → false ≡ (leb s (passedHour + 5) && eqb day (clocksForward w))
       by true q z = rw (lt-leb s (passedHour + 5) (ltb-true (passedHour + 5) s q))
       by false q z =
-          let early = ltb-true day (w .days - 24) z in
-          rw (ne-eqb day (clocksForward w) (λ (e : day ≡ clocksForward w). omega (arith, forward-sunday w right .not-before, days-few w right)))
+          let early = ltb-true day (marchEighth (w .days)) z in
+          rw (ne-eqb day (clocksForward w) (λ (e : day ≡ clocksForward w). omega (arith, forward-sunday w right .not-before)))
           (and-false (leb s (passedHour + 5)))
 
-  pub split-sunday : wrongWinter w ≡ false → (ltb (passedHour + 5) s || ltb day (w .days - 24)) ≡ false
+  pub split-sunday : wrongWinter w ≡ false → (ltb (passedHour + 5) s || ltb day (marchEighth (w .days))) ≡ false
       → {r : Change} {forward : ℕ} → r ≡ On forward → changePaper r ≡ forwardDay w → eqb day forward ≡ isSplit w day s
   unfolding isSplit
   split-sunday right early q e =
-      let p = neither (ltb (passedHour + 5) s) (ltb day (w .days - 24)) early in
+      let p = neither (ltb (passedHour + 5) s) (ltb day (marchEighth (w .days))) early in
       rw (le-leb s (passedHour + 5) (ltb-false (passedHour + 5) s (p .0)), forward-on w right q e)
 
 -- the hours that the code holds are those of the event

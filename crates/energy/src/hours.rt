@@ -33,7 +33,7 @@ fn is_split(w: Winter, day: u32, start: u32) -> bool
     requires { ⌜ wrongWinter w ≡ false ⌝ }
     ensures { λ r. ⌜ r ≡ isSplit w day start ⌝ }
 {
-    if (calendar::PASSED_HOUR + 5 < start) | (day < w.days - 24) {
+    if (calendar::PASSED_HOUR + 5 < start) | (day < w.days - calendar::DAYS_FROM_8_MARCH) {
         return false;
     }
     match calendar::clocks_forward(w) {

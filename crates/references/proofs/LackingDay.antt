@@ -13,10 +13,9 @@ use Rattle.book.proofs.RunLaws.{run-each, run-more, run-split}
 use Rattle.book.specs.Places.{run}
 use Rattle.calendar.proofs.Answered.{forward-on}
 use Rattle.calendar.proofs.ClockLaws.{forward-sunday, every-hour, other-hour, no-hour}
-use Rattle.calendar.proofs.Promise.{days-few}
 use Rattle.calendar.specs.Answers.{changePaper, forwardDay}
 use Rattle.calendar.specs.Clocks.{clocksForward, passedHour, hasHour}
-use Rattle.calendar.specs.Days.{wrongWinter}
+use Rattle.calendar.specs.Days.{wrongWinter, marchEighth}
 use Rattle.calendar.specs.declared.answers.Change.the-variants.{On}
 use Rattle.calendar.specs.declared.answers.Change.{Change}
 use Rattle.calendar.specs.declared.answers.Winter.{Winter}
@@ -73,20 +72,20 @@ module _ (w : Winter) (day s : ℕ) where
   may-lack : noneLacks w day s ≡ false → May
   unfolding noneLacks
   may-lack e =
-      let outer = neither (ltb s (passedHour + 3) || ltb (passedHour + 5) s) (leb day (w .days - 24)) e in
+      let outer = neither (ltb s (passedHour + 3) || ltb (passedHour + 5) s) (leb day (marchEighth (w .days))) e in
       let inner = neither (ltb s (passedHour + 3)) (ltb (passedHour + 5) s) (outer .0) in
       (ltb-false s (passedHour + 3) (inner .0), ltb-false (passedHour + 5) s (inner .1))
 
-  none-lack : noneLacks w day s ≡ true → (s < passedHour + 3) ⊎ ((passedHour + 5 < s) ⊎ (day ≤ w .days - 24))
+  none-lack : noneLacks w day s ≡ true → (s < passedHour + 3) ⊎ ((passedHour + 5 < s) ⊎ (day ≤ marchEighth (w .days)))
   unfolding noneLacks
   none-lack e = by (ltb s (passedHour + 3)) refl (ltb (passedHour + 5) s) refl e
     where
       by : (a : Bool) → ltb s (passedHour + 3) ≡ a → (b : Bool) → ltb (passedHour + 5) s ≡ b
-          → (a || b || leb day (w .days - 24)) ≡ true
-          → (s < passedHour + 3) ⊎ ((passedHour + 5 < s) ⊎ (day ≤ w .days - 24))
+          → (a || b || leb day (marchEighth (w .days))) ≡ true
+          → (s < passedHour + 3) ⊎ ((passedHour + 5 < s) ⊎ (day ≤ marchEighth (w .days)))
       by true p b q z = inl (ltb-true s (passedHour + 3) p)
       by false p true q z = inr (inl (ltb-true (passedHour + 5) s q))
-      by false p false q z = inr (inr (leb-true day (w .days - 24) z))
+      by false p false q z = inr (inr (leb-true day (marchEighth (w .days)) z))
 
   -- the day that lacks one as the code finds it: none, or by the calendar's answer r
   pub lacking-none : noneLacks w day s ≡ true → w .days ≡ lackingDay w day s
@@ -115,10 +114,10 @@ module _ (w : Winter) (day s : ℕ) (right : wrongWinter w ≡ false) (later : c
   unnamed t = has-others w (clocksForward w) hours (run-each _ (s - longestAhead s) (s - 2) (λ x from to e. none x from to e (none-lack w day s t)))
     where
       none : (x : ℕ) → s - longestAhead s ≤ x → x < s - 2 → x ≡ passedHour
-          → (s < passedHour + 3) ⊎ ((passedHour + 5 < s) ⊎ (day ≤ w .days - 24)) → ⊥
+          → (s < passedHour + 3) ⊎ ((passedHour + 5 < s) ⊎ (day ≤ marchEighth (w .days))) → ⊥
       none x from to e (inl b) = omega arith
       none x from to e (inr (inl b)) = omega (arith, ahead-range s)
-      none x from to e (inr (inr b)) = omega (arith, forward-sunday w right .not-before, days-few w right)
+      none x from to e (inr (inr b)) = omega (arith, forward-sunday w right .not-before)
 
   sunday-has : hasEach w (clocksForward w) (warmUp w day s) ≡ noneLacks w day s
   sunday-has = rw hours-are (by (noneLacks w day s) refl)

@@ -1,12 +1,12 @@
 -- How the code walks over days that carry an event, and what its private functions ask of a day. To believe the public contract it need
 -- not be read.
 -- Assumes nothing.
-use Prim.Native.Nat.{ℕ, zero, suc, _+_, _-_, _<_}
+use Prim.Native.Nat.{ℕ, zero, suc, _+_, _<_}
 use mathlib.Core.Bool.{Bool, false, not, cond, Bool·beq, _&&_, _||_}
 use mathlib.Core.Path.{_≡_}
 use lib.Dec.{leb, ltb, eqb}
 use Rattle.calendar.specs.Clocks.{clocksForward, passedHour}
-use Rattle.calendar.specs.Days.{wrongWinter, inPeriod}
+use Rattle.calendar.specs.Days.{wrongWinter, inPeriod, marchEighth}
 use Rattle.calendar.specs.Excluded.{excluded}
 use Rattle.calendar.specs.Weekdays.{weekend}
 use Rattle.calendar.specs.declared.answers.Kind.{Kind}
@@ -20,7 +20,7 @@ pastEvents free (suc d) = cond (free d) (suc d) (pastEvents free d)
 -- whether no earlier day can lack a warm-up hour of an event: its start does not name the hour that the clocks pass over, or its day is not
 -- after 8 March
 unfoldable pub noneLacks : Winter → ℕ → ℕ → Bool
-noneLacks w day s = ltb s (passedHour + 3) || ltb (passedHour + 5) s || leb day (w .days - 24)
+noneLacks w day s = ltb s (passedHour + 3) || ltb (passedHour + 5) s || leb day (marchEighth (w .days))
 
 -- the day that lacks one; where none does, the day behind the book's last
 unfoldable pub lackingDay : Winter → ℕ → ℕ → ℕ

@@ -25,7 +25,7 @@ fn lacking_day(w: Winter, day: u32, start: u32) -> u32
 {
     if (start < calendar::PASSED_HOUR + 3)
         | (calendar::PASSED_HOUR + 5 < start)
-        | (day <= w.days - 24)
+        | (day <= w.days - calendar::DAYS_FROM_8_MARCH)
     {
         return w.days;
     }
