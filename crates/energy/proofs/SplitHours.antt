@@ -47,7 +47,8 @@ module _ (w : Winter) (day s : ℕ) where
       and-false true = refl
       and-false false = refl
 
-      by : (b : Bool) → ltb (passedHour + 5) s ≡ b → (b || ltb day (marchEighth (w .days))) ≡ true → false ≡ (leb s (passedHour + 5) && eqb day (clocksForward w))
+      by : (b : Bool) → ltb (passedHour + 5) s ≡ b → (b || ltb day (marchEighth (w .days))) ≡ true
+          → false ≡ (leb s (passedHour + 5) && eqb day (clocksForward w))
       by true q z = rw (lt-leb s (passedHour + 5) (ltb-true (passedHour + 5) s q))
       by false q z =
           let early = ltb-true day (marchEighth (w .days)) z in
