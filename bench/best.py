@@ -17,7 +17,7 @@ def main(paths):
         call, notices = row[0][:2]
         library, peer = min(one[2] for one in row), min(one[3] for one in row)
         apart = f"   {(library - peer) / 1000:+.3f} microseconds" if notices == 1 else ""
-        print(f"{call:8} {notices:7} {library:12.1f} {peer:12.1f} {library / peer:8.2f}{apart}")
+        print(f"{call:7} {notices:7} {library:12.1f} {peer:12.1f} {library / peer:8.2f}{apart}")
 
 
 main(sys.argv[1:])

@@ -1,4 +1,4 @@
-/* The plain C peer of the library's list check, and of the one call that settled a winter when the peer was written. See peer.c. */
+/* The plain C peer of two of the library's calls, with the same bytes in, bytes out and answers. See peer.c. */
 #ifndef PEER_H
 #define PEER_H
 

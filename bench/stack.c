@@ -39,20 +39,10 @@ static void call_check(void)
     ibisladder_check(WINTER, 1, winter.list, LIST_BYTES - 1);
 }
 
-static void call_energies(void)
+static void call_settle(void)
 {
-    ibisladder_energies(WINTER, winter.book, BOOK_BYTES, winter.list, LIST_BYTES, out, LINES_BYTES);
-    ibisladder_energies(WINTER, winter.book, BOOK_BYTES, winter.list, LIST_BYTES, out, LINES_BYTES - 1);
-}
-
-/* The first readings of the book, and bytes of ones, which are too high for energies. */
-static void call_cents(void)
-{
-    static uint8_t too_high[ENERGIES_BYTES];
-    memset(too_high, 0xFF, sizeof too_high);
-    ibisladder_cents(PRICE, winter.book, ENERGIES_BYTES, out, CENTS_BYTES);
-    ibisladder_cents(PRICE, winter.book, ENERGIES_BYTES, out, CENTS_BYTES - 1);
-    ibisladder_cents(PRICE, too_high, ENERGIES_BYTES, out, CENTS_BYTES);
+    ibisladder_settle(WINTER, winter.book, BOOK_BYTES, PRICE, winter.list, LIST_BYTES, out, OUT_BYTES);
+    ibisladder_settle(WINTER, winter.book, BOOK_BYTES, PRICE, winter.list, LIST_BYTES, out, OUT_BYTES - 1);
 }
 
 static void call_power(void)
@@ -97,10 +87,9 @@ int main(void)
         return EXIT_FAILURE;
     fill_winter(&winter);
     fill_site(&site, 3);
-    long nothing = stack_of(call_nothing), cents = stack_of(call_cents), check = stack_of(call_check);
-    long energies = stack_of(call_energies), power = stack_of(call_power);
-    printf("stack written to, bytes: ibisladder_cents %ld, ibisladder_check %ld, ibisladder_energies %ld, ibisladder_power %ld "
-           "(calling nothing %ld)\n", cents, check, energies, power, nothing);
+    long nothing = stack_of(call_nothing), check = stack_of(call_check), settle = stack_of(call_settle), power = stack_of(call_power);
+    printf("stack written to, bytes: ibisladder_check %ld, ibisladder_power %ld, ibisladder_settle %ld (calling nothing %ld)\n", check,
+           power, settle, nothing);
     free(stack);
     return EXIT_SUCCESS;
 }

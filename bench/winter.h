@@ -9,18 +9,11 @@
 
 #define WINTER 2026
 #define PRICE 51967
-#define OTHER_PRICE 50000
 #define MOST_NOTICES 100
 #define NOTICE_BYTES 12
 #define BOOK_BYTES (4 * 24 * 151)
 #define LIST_BYTES (NOTICE_BYTES * MOST_NOTICES)
-#define LINE_BYTES 24 /* of the energies: three numbers */
-#define CENT_BYTES 8
-#define ENERGY_BYTES 4
-#define LINES_BYTES (LINE_BYTES * MOST_NOTICES)
-#define CENTS_BYTES (CENT_BYTES * MOST_NOTICES)
-#define ENERGIES_BYTES (ENERGY_BYTES * MOST_NOTICES)
-#define OUT_BYTES (32 * MOST_NOTICES) /* lines of four numbers: of a site, and all lines of the peer */
+#define OUT_BYTES (32 * MOST_NOTICES)
 #define THREE_HOUR_NOTICES 33 /* of a site, as many as the winter's 100 hours allow */
 #define FOUR_HOUR_NOTICES 25
 #define REFERENCE_BYTES 4

@@ -1,8 +1,7 @@
 /*
- * A small host of Ibisladder: it fills books, has lists checked and their energies worked out, prices each winter at two rates from one
- * reading of its book, prints the lines with totals that it adds up itself, settles medium-power sites, whose totals it is told, and says
- * every refusal in words. Winters, readings and answers are the sample and figures of docs/RULES.md, or follow from it by hand. It ends
- * with failure where an answer is another one.
+ * A small host of Ibisladder: it fills books, has lists checked and settled, prints the lines with totals that it adds up itself,
+ * settles medium-power sites, whose totals it is told, and says every refusal in words. Winters, readings and answers are the sample and
+ * figures of docs/RULES.md, or follow from it by hand. It ends with failure where an answer is another one.
  *
  *     cc -std=c99 $(pkg-config --cflags ibisladder) host.c $(pkg-config --libs ibisladder)
  */
@@ -22,15 +21,11 @@
 #define TOTALS_BYTES (IBISLADDER_TOTAL_NUMBERS * IBISLADDER_OUT_NUMBER_BYTES)
 #define MOST_EVENTS 4
 
-/* This year's rate and next year's, as prices. */
-#define RATES 2
-static const uint32_t PRICES[RATES] = {50000, 51967};
-
 struct notice {
     uint32_t day, start, end;
 };
 
-/* What is printed of a notice. The last number is the cents at a price, or at a medium-power site the reduction. */
+/* The last number is the cents, or at a medium-power site the reduction. */
 struct line {
     uint64_t code, place, energy, last;
 };
@@ -39,18 +34,12 @@ struct totals {
     uint64_t reductions, settled, cents;
 };
 
-/* A winter's notices, and the lines that the rules give them at each rate. */
+/* A winter's notices at a price, and the lines that the rules give them. */
 struct account {
+    uint32_t price;
     size_t events;
     struct notice notices[MOST_EVENTS];
-    struct line right[RATES][MOST_EVENTS];
-};
-
-/* What the library gave for an account: its lines, their energies once more in 32 bits, and the cents of these at one rate. */
-struct answers {
-    uint8_t lines[MOST_EVENTS * LINE_BYTES];
-    uint8_t energies[MOST_EVENTS * IBISLADDER_NUMBER_BYTES];
-    uint8_t cents[MOST_EVENTS * IBISLADDER_OUT_NUMBER_BYTES];
+    struct line right[MOST_EVENTS];
 };
 
 /* The notices of a medium-power site, each with its reference, and the lines and totals that the rules give them. */
@@ -85,10 +74,10 @@ static void put_notice(uint8_t *list, size_t index, struct notice notice)
     put_number(list, IBISLADDER_NOTICE_NUMBERS * index + 2, notice.end);
 }
 
-/* Of the line at the front of an output the code, the place and the energy, and with them a last number. */
-static struct line line_with(const uint8_t *out, uint64_t last)
+/* The line at the front of an output. */
+static struct line line_at(const uint8_t *out)
 {
-    struct line line = {out_number(out, 0), out_number(out, 1), out_number(out, 2), last};
+    struct line line = {out_number(out, 0), out_number(out, 1), out_number(out, 2), out_number(out, 3)};
     return line;
 }
 
@@ -111,7 +100,7 @@ static void put_every_day(uint8_t *book, uint32_t start, uint32_t end, uint32_t 
         put_readings(book, day, start, end, reading);
 }
 
-/* Winters. */
+/* Settlements. */
 
 static void print_line(struct notice notice, struct line line)
 {
@@ -128,16 +117,16 @@ static bool same_line(struct line one, struct line other)
     return one.code == other.code && one.place == other.place && one.energy == other.energy && one.last == other.last;
 }
 
-/* Prints the lines and the totals at a rate; whether each line is the right one. */
-static bool print_account(const struct account *account, size_t rate, const struct answers *answers)
+/* Prints the lines and the totals; whether each line is the right one. */
+static bool print_account(const struct account *account, const uint8_t *out)
 {
     bool right = true;
     uint64_t energy = 0, cents = 0;
-    printf("winter=%u\nprice=%" PRIu32 "\nevents=%zu\n", WINTER, PRICES[rate], account->events);
+    printf("winter=%u\nprice=%" PRIu32 "\nevents=%zu\n", WINTER, account->price, account->events);
     for (size_t i = 0; i < account->events; i++) {
-        struct line line = line_with(answers->lines + LINE_BYTES * i, out_number(answers->cents, i));
+        struct line line = line_at(out + LINE_BYTES * i);
         print_line(account->notices[i], line);
-        right = right && same_line(line, account->right[rate][i]);
+        right = right && same_line(line, account->right[i]);
         energy += line.energy;
         cents += line.last;
     }
@@ -145,56 +134,29 @@ static bool print_account(const struct account *account, size_t rate, const stru
     return right;
 }
 
-/* Says that a call was refused, which none of those that settle here is to be. */
+/* Says that a call was refused, which none of the settlements here is to be. */
 static bool print_refused(uint32_t answer)
 {
     printf("refused=%" PRIu32 ",%" PRIu32 "\n", ibisladder_number(answer), ibisladder_place(answer));
     return false;
 }
 
-/*
- * The energy is the third number of a line. It always fits the 32 bits in which the second call takes it. That of an unsettled line is 0
- * and stays in the row, so that energy k is that of notice k.
- */
-static void take_energies(struct answers *answers, size_t events)
-{
-    for (size_t i = 0; i < events; i++)
-        put_number(answers->energies, i, (uint32_t)out_number(answers->lines, IBISLADDER_LINE_NUMBERS * i + 2));
-}
-
-static bool price_at(const struct account *account, size_t rate, struct answers *answers)
-{
-    uint32_t answer = ibisladder_cents(PRICES[rate], answers->energies, account->events * IBISLADDER_NUMBER_BYTES, answers->cents,
-                                       sizeof answers->cents);
-    return answer == 0 ? print_account(account, rate, answers) : print_refused(answer);
-}
-
-/* Has the book read once, and the energies priced at each rate. */
 static bool settle(const uint8_t *book, const struct account *account)
 {
-    uint8_t list[MOST_EVENTS * NOTICE_BYTES];
-    struct answers answers;
+    uint8_t list[MOST_EVENTS * NOTICE_BYTES], out[MOST_EVENTS * LINE_BYTES];
     for (size_t i = 0; i < account->events; i++)
         put_notice(list, i, account->notices[i]);
-    uint32_t answer = ibisladder_energies(WINTER, book, BOOK_BYTES, list, account->events * NOTICE_BYTES, answers.lines,
-                                          sizeof answers.lines);
-    if (answer != 0)
-        return print_refused(answer);
-    take_energies(&answers, account->events);
-    bool right = true;
-    for (size_t rate = 0; rate < RATES; rate++)
-        right = price_at(account, rate, &answers) && right;
-    return right;
+    uint32_t answer = ibisladder_settle(WINTER, book, BOOK_BYTES, account->price, list, account->events * NOTICE_BYTES, out,
+                                        sizeof out);
+    return answer == 0 ? print_account(account, out) : print_refused(answer);
 }
 
 /* The sample, and two events more: one without readings, one with a reading that no meter gives. */
 static bool settle_sample(uint8_t *book)
 {
     static const uint32_t days[] = {31, 32, 33, 36, 37};
-    static const struct account account = {3,
-                                           {{38, 6, 9}, {39, 16, 17}, {40, 6, 7}},
-                                           {{{0, 0, 81000, 225}, {21, 948, 0, 0}, {22, 961, 0, 0}},
-                                            {{0, 0, 81000, 234}, {21, 948, 0, 0}, {22, 961, 0, 0}}}};
+    static const struct account account = {
+        51967, 3, {{38, 6, 9}, {39, 16, 17}, {40, 6, 7}}, {{0, 0, 81000, 234}, {21, 948, 0, 0}, {22, 961, 0, 0}}};
     put_every_day(book, 0, IBISLADDER_HOURS, IBISLADDER_MISSING);
     for (uint32_t i = 0; i < 5; i++) {
         put_readings(book, days[i], 1, 4, 2000 + 100 * i);
@@ -206,18 +168,11 @@ static bool settle_sample(uint8_t *book)
     return settle(book, &account);
 }
 
-/*
- * R = 126,000, B = 9,000, A = 12,000: C = 11,000 gives 720,000, and on the next day C = 10,999, just past the limit, less.
- *
- * The two energies, 1,386,018 together, are worth 3,850.05 cents at 50,000 and 4,001.51 at 51,967: rounded, the winter comes to 152 cents
- * more at next year's rate. At 1,967, by which that rate is higher, they are worth 151.46 cents, so 151: each price is rounded by itself.
- */
+/* R = 126,000, B = 9,000, A = 12,000: C = 11,000 gives 720,000, and on the next day C = 10,999, just past the limit, less. */
 static bool settle_at_limit(uint8_t *book)
 {
     static const struct account account = {
-        2,
-        {{38, 6, 9}, {39, 6, 9}},
-        {{{0, 0, 720000, 2000}, {0, 0, 666018, 1850}}, {{0, 0, 720000, 2079}, {0, 0, 666018, 1923}}}};
+        50000, 2, {{38, 6, 9}, {39, 6, 9}}, {{0, 0, 720000, 2000}, {0, 0, 666018, 1850}}};
     put_every_day(book, 1, 4, 1000);
     put_every_day(book, 6, 9, 14000);
     for (uint32_t day = 38; day <= 39; day++) {
@@ -229,13 +184,11 @@ static bool settle_at_limit(uint8_t *book)
     return settle(book, &account);
 }
 
-/* Three lines of 180, at 50,000 half a cent each: the cents add up to the rounded worth of all three. */
+/* Three lines of 180, half a cent each: the cents add up to the rounded worth of all three. */
 static bool settle_halves(uint8_t *book)
 {
     static const struct account account = {
-        3,
-        {{38, 6, 7}, {39, 6, 7}, {40, 6, 7}},
-        {{{0, 0, 180, 1}, {0, 0, 180, 0}, {0, 0, 180, 1}}, {{0, 0, 180, 1}, {0, 0, 180, 0}, {0, 0, 180, 1}}}};
+        50000, 3, {{38, 6, 7}, {39, 6, 7}, {40, 6, 7}}, {{0, 0, 180, 1}, {0, 0, 180, 0}, {0, 0, 180, 1}}};
     put_every_day(book, 0, IBISLADDER_HOURS, 1000);
     for (uint32_t day = 38; day <= 40; day++)
         put_readings(book, day, 6, 7, 990);
@@ -264,8 +217,7 @@ static bool print_site(const struct site *site, const uint8_t *out, struct total
     bool right = same_totals(totals, site->totals);
     printf("winter=%u\nevents=%zu\n", WINTER, site->events);
     for (size_t i = 0; i < site->events; i++) {
-        const uint8_t *at = out + POWER_LINE_BYTES * i;
-        struct line line = line_with(at, out_number(at, 3));
+        struct line line = line_at(out + POWER_LINE_BYTES * i);
         printf("reference=%" PRIu32 "  ", site->references[i]);
         print_line(site->notices[i], line);
         right = right && same_line(line, site->right[i]);
@@ -406,46 +358,22 @@ static bool is_untouched(const uint8_t *out, size_t length, uint8_t mark)
     return true;
 }
 
-/* Calls for energies that are refused for other reasons than the list: none writes to the output. */
-static bool try_energies(const uint8_t *book)
+/* Calls that the settlement refuses for other reasons than the list: none writes to the output. */
+static bool try_settlements(const uint8_t *book)
 {
     const uint8_t mark = 0xA5;
     uint8_t list[NOTICE_BYTES], out[LINE_BYTES];
     put_notice(list, 0, (struct notice){38, 6, 9});
     memset(out, mark, sizeof out);
 
-    uint32_t answer = ibisladder_energies(WINTER, book, BOOK_BYTES - 1, list, sizeof list, out, sizeof out);
+    uint32_t answer = ibisladder_settle(WINTER, book, BOOK_BYTES - 1, 51967, list, sizeof list, out, sizeof out);
     bool right = print_answer("a byte of the book missing", answer, IBISLADDER_REFUSED_BOOK, 0);
-    answer = ibisladder_energies(WINTER + 1, book, BOOK_BYTES, list, sizeof list, out, sizeof out);
+    answer = ibisladder_settle(WINTER + 1, book, BOOK_BYTES, 51967, list, sizeof list, out, sizeof out);
     right = print_answer("151 days in a leap year", answer, IBISLADDER_REFUSED_BOOK, 0) && right;
-    answer = ibisladder_energies(WINTER, book, BOOK_BYTES, list, sizeof list, out, sizeof out - 1);
+    answer = ibisladder_settle(WINTER, book, BOOK_BYTES, 0, list, sizeof list, out, sizeof out);
+    right = print_answer("no price", answer, IBISLADDER_REFUSED_PRICE, 0) && right;
+    answer = ibisladder_settle(WINTER, book, BOOK_BYTES, 51967, list, sizeof list, out, sizeof out - 1);
     right = print_answer("a byte of the output missing", answer, IBISLADDER_REFUSED_OUTPUT, 0) && right;
-
-    bool untouched = is_untouched(out, sizeof out, mark);
-    printf("written by these: %s\n", untouched ? "nothing" : "something");
-    return right && untouched;
-}
-
-/* Calls for cents that are refused, and one on no energies: none writes to the output. */
-static bool try_cents(void)
-{
-    const uint8_t mark = 0x3C;
-    const size_t two = 2 * IBISLADDER_NUMBER_BYTES;
-    uint8_t energies[(IBISLADDER_MOST_ENERGIES + 1) * IBISLADDER_NUMBER_BYTES] = {0}, out[2 * IBISLADDER_OUT_NUMBER_BYTES];
-    put_number(energies, 0, IBISLADDER_HIGHEST_ENERGY);
-    put_number(energies, 1, IBISLADDER_HIGHEST_ENERGY + 1);
-    memset(out, mark, sizeof out);
-
-    bool right = print_answer("no price", ibisladder_cents(0, energies, two, out, sizeof out), IBISLADDER_REFUSED_PRICE, 0);
-    uint32_t answer = ibisladder_cents(PRICES[0], energies, sizeof energies, out, sizeof out);
-    right = print_answer("101 energies", answer, IBISLADDER_REFUSED_LIST, 0) && right;
-    answer = ibisladder_cents(PRICES[0], energies, IBISLADDER_NUMBER_BYTES + 1, out, sizeof out);
-    right = print_answer("an energy and a byte", answer, IBISLADDER_REFUSED_LIST, 0) && right;
-    answer = ibisladder_cents(PRICES[0], energies, two, out, sizeof out - 1);
-    right = print_answer("a byte of the cents missing", answer, IBISLADDER_REFUSED_OUTPUT, 0) && right;
-    answer = ibisladder_cents(PRICES[0], energies, two, out, sizeof out);
-    right = print_answer("a second energy of 1,500,000,001", answer, IBISLADDER_REFUSED_ENERGY, 1) && right;
-    right = print_answer("no energies", ibisladder_cents(PRICES[0], energies, 0, out, sizeof out), 0, 0) && right;
 
     bool untouched = is_untouched(out, sizeof out, mark);
     printf("written by these: %s\n", untouched ? "nothing" : "something");
@@ -489,8 +417,7 @@ int main(void)
     right = settle_at_bound(book) && right;
     right = try_lists() && right;
     right = try_long_list() && right;
-    right = try_energies(book) && right;
-    right = try_cents() && right;
+    right = try_settlements(book) && right;
     right = try_sites(book) && right;
     if (!right)
         fprintf(stderr, "host: an answer is another one\n");

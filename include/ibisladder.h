@@ -1,11 +1,10 @@
 /*
  * Ibisladder: what a building spared in the peaks of a winter, and what that is worth in cents.
  *
- * Four calls. ibisladder_check says whether a list of notices can stand together under the rules of a tariff, and if not, which
- * rule it breaks first and where. ibisladder_energies works out, for each notice of such a list, the energy spared, and
- * ibisladder_cents what energies are worth at a price. ibisladder_power settles the notices of a medium-power site, which is credited
- * for the mean power that it spared. All four are proved to answer every input as the specification says; nothing has to be checked
- * before a call.
+ * Three calls. ibisladder_check says whether a list of notices can stand together under the rules of a tariff, and if not, which
+ * rule it breaks first and where. ibisladder_settle works out, for each notice of such a list, the energy spared and its worth.
+ * ibisladder_power settles the notices of a medium-power site, which is credited for the mean power that it spared. All three are
+ * proved to answer every input as the specification says; nothing has to be checked before a call.
  *
  * The archive libibisladder.a is position-independent code for x86-64 Linux and needs nothing but memcpy and memset. The shared
  * library libibisladder.so is the same code.
@@ -27,38 +26,25 @@
  *   price     in thousandths of a cent per kWh, 1 to 1,000,000.
  *   reference the power that the utility expects a medium-power site to draw in an event, in W: 0 to 10,000,000. References are
  *             numbers of 32 bits, one for each notice, in the order of the list.
- *   energy    what an event spared: in eighteenths of a Wh from ibisladder_energies, in Wh from ibisladder_power. The rules of the
- *             tariff then come out whole, and nothing is rounded. The energies that ibisladder_cents prices are 0 to 100 numbers of
- *             32 bits, one behind the other, in eighteenths of a Wh too: 0 to 1,500,000,000 each.
- *   cents     what an energy is worth at a price, in whole cents: a number of 64 bits, never negative.
+ *   energy    what an event spared: in eighteenths of a Wh from ibisladder_settle, in Wh from ibisladder_power. The rules of the
+ *             tariff then come out whole, and nothing is rounded.
  *   reduction the power that an event of a medium-power site spared, in twelfths of a W: its energy over its hours. Of these there
  *             are 3 or 4, so that this comes out whole too: in twelfths it is the energy times 4 or times 3.
- *   line      what is written for a notice: numbers of 64 bits, which are the event code, its place and the energy spared, and from
- *             ibisladder_power a fourth, its reduction. None of them is ever negative.
+ *   line      what a settlement writes for a notice: four numbers of 64 bits, which are the event code, its place, the energy
+ *             spared, and its cents, or from ibisladder_power its reduction. None of them is ever negative.
  *   totals    what ibisladder_power writes beside its lines: three numbers of 64 bits, which are the reductions of all lines added
  *             up, how many events are settled, and the credit in cents.
  *
- * The cents of an energy are the rounded worth of all energies up to it in the row, less the rounded worth of those before it (halves
- * go up), so that the cents of a row add up to the rounded worth of its energies. The sums of the energies and of the cents are the
- * caller's to add up (docs/RULES.md, rule 9.8).
- *
- *
- * To settle a winter, at one price or at several
- *
- * 1. ibisladder_energies reads the book, and writes a line for each notice. It is given no price.
- * 2. The caller takes the energy of every line, also where the event is not settled and the energy is 0, so that energy k is that of
- *    notice k. It is lent again in 32 bits, which always hold it: of its eight bytes the first four are lent.
- * 3. ibisladder_cents gives the cents of these energies, once for each price. The book is not needed any more.
- *
- * Each price has a rounding of its own: the totals at two prices can be a cent further apart, or a cent nearer, than what the same
- * energies are worth at the difference of the prices.
+ * A line's cents are the rounded worth of all lines up to it, less the rounded worth of all lines before it (halves go up), so
+ * that the cents of the lines add up to the rounded worth of their energies. The two totals of ibisladder_settle, energy and cents,
+ * are the caller's to add up (docs/RULES.md, rule 9.8).
  *
  *
  * What the caller lends
  *
- * Lists, books, references, energies and outputs are bytes: a pointer and a length in bytes. Numbers in them are little-endian, on
- * every machine, and need no alignment. Each pointer must be good for as many bytes as the length beside it says, and no byte beyond
- * is touched. It must not be NULL, not even beside the length 0: lend any address there, as that of a variable. An output, and the
+ * Lists, books, references and outputs are bytes: a pointer and a length in bytes. Numbers in them are little-endian, on every
+ * machine, and need no alignment. Each pointer must be good for as many bytes as the length beside it says, and no byte beyond is
+ * touched. It must not be NULL, not even beside the length 0: lend any address there, as that of a variable. An output, and the
  * totals are one too, must not overlap anything else that is lent, the other output included. The bytes themselves may be
  * anything.
  *
@@ -83,9 +69,9 @@ extern "C" {
  * with another. What may differ is the words of the two _text functions, the times and, below IBISLADDER_STACK_BYTES, the stack.
  */
 #define IBISLADDER_VERSION_MAJOR 0
-#define IBISLADDER_VERSION_MINOR 5
+#define IBISLADDER_VERSION_MINOR 4
 #define IBISLADDER_VERSION_PATCH 0
-#define IBISLADDER_VERSION "0.5.0"
+#define IBISLADDER_VERSION "0.4.0"
 
 /* Sizes and bounds. */
 #define IBISLADDER_FIRST_WINTER 2010u
@@ -94,23 +80,21 @@ extern "C" {
 #define IBISLADDER_DAYS_LEAP 152u        /* N, where it is one */
 #define IBISLADDER_HOURS 24u             /* hours of a day, in the book */
 #define IBISLADDER_MOST_NOTICES 100u     /* notices of a list, at most */
-#define IBISLADDER_MOST_ENERGIES 100u    /* energies that are priced in one call, at most */
 #define IBISLADDER_NOTICE_NUMBERS 3u     /* numbers of a notice: day, first hour, end */
-#define IBISLADDER_LINE_NUMBERS 3u       /* numbers of a line of ibisladder_energies: code, place, energy */
+#define IBISLADDER_LINE_NUMBERS 4u       /* numbers of a line of ibisladder_settle: code, place, energy, cents */
 #define IBISLADDER_POWER_LINE_NUMBERS 4u /* numbers of a line of ibisladder_power: code, place, energy, reduction */
 #define IBISLADDER_TOTAL_NUMBERS 3u      /* numbers of the totals: reductions, settled events, credit */
 #define IBISLADDER_REDUCTION_PARTS 12u   /* parts of a W: a reduction counts these */
-#define IBISLADDER_NUMBER_BYTES 4u       /* bytes of a number in a book, a list, references or energies */
+#define IBISLADDER_NUMBER_BYTES 4u       /* bytes of a number in a book, a list or references */
 #define IBISLADDER_OUT_NUMBER_BYTES 8u   /* bytes of a number in an output */
 #define IBISLADDER_HIGHEST_PRICE 1000000u
 #define IBISLADDER_HIGHEST_READING 10000000u
 #define IBISLADDER_HIGHEST_REFERENCE 10000000u
-#define IBISLADDER_HIGHEST_ENERGY 1500000000u /* in eighteenths of a Wh; no line of ibisladder_energies has more */
 #define IBISLADDER_MISSING 4294967295u   /* in a book: there is no reading of this hour */
 
 /*
- * Bytes of stack that a call needs, at most. By the code: 19,824 in ibisladder_energies, 1,264 in ibisladder_cents, 19,552 in
- * ibisladder_power, 56 in ibisladder_check.
+ * Bytes of stack that a call needs, at most. By the code: 20,608 in ibisladder_settle, 19,552 in ibisladder_power, 56 in
+ * ibisladder_check.
  */
 #define IBISLADDER_STACK_BYTES 24576u
 
@@ -123,19 +107,17 @@ enum ibisladder_profile {
 };
 
 /*
- * Why a call is refused: the number of its answer. The place of 10 to 27 is the index of the notice, from 0, that of 7 the index of
- * the energy, that of 41 the index of the reference, and that of the others 0. Of several reasons the first of the call's order is
- * given, which is said at each call.
+ * Why a call is refused: the number of its answer. The place of 10 to 27 is the index of the notice, from 0, that of 41 the index
+ * of the reference, and that of the others 0. Of several reasons the first of the call's order is given, which is said at each call.
  */
 enum ibisladder_refusal {
     IBISLADDER_ACCEPTED = 0,            /* not refused */
     IBISLADDER_REFUSED_WINTER = 1,      /* the winter is outside 2010..2098 */
     IBISLADDER_REFUSED_BOOK = 2,        /* the book is not 24 N whole numbers long */
     IBISLADDER_REFUSED_PRICE = 3,       /* the price is outside 1..1,000,000 */
-    IBISLADDER_REFUSED_LIST = 4,        /* a list not of whole notices, or energies not of whole numbers; or more than 100 of them */
+    IBISLADDER_REFUSED_LIST = 4,        /* the list is not of whole notices, or has more than 100 */
     IBISLADDER_REFUSED_PROFILE = 5,     /* the profile is neither 1 nor 2 */
-    IBISLADDER_REFUSED_OUTPUT = 6,      /* too few whole numbers in the output, or fewer than three in the totals: see each call */
-    IBISLADDER_REFUSED_ENERGY = 7,      /* the energy is above 1,500,000,000 */
+    IBISLADDER_REFUSED_OUTPUT = 6,      /* fewer than four whole numbers a notice in the output, or than three in the totals */
     IBISLADDER_REFUSED_DAY = 10,        /* the day is outside the winter period, days 30 to N-1 */
     IBISLADDER_REFUSED_EXCLUDED = 11,   /* 24, 25, 26, 31 December, 1, 2 January, Good Friday or Easter Monday */
     IBISLADDER_REFUSED_WEEKEND = 12,    /* a Saturday or Sunday, under profile 2 */
@@ -151,8 +133,8 @@ enum ibisladder_refusal {
 };
 
 /*
- * How an event was settled: the first number of its line. A line that is not settled has energy 0, which is worth 0 cents at
- * any price, and from ibisladder_power reduction 0. It stops no other. FEW_DAYS is for ibisladder_energies alone.
+ * How an event was settled: the first number of its line. A line that is not settled has energy 0, and 0 cents or reduction 0, and
+ * stops no other. FEW_DAYS is for ibisladder_settle alone.
  */
 enum ibisladder_event {
     IBISLADDER_EVENT_SETTLED = 0,   /* the energy is what was spared; place 0 */
@@ -187,10 +169,9 @@ static inline const char *ibisladder_refusal_text(uint32_t number)
     case IBISLADDER_REFUSED_WINTER: return "the winter is outside 2010 to 2098";
     case IBISLADDER_REFUSED_BOOK: return "the book does not have the length of this winter";
     case IBISLADDER_REFUSED_PRICE: return "the price is outside 1 to 1,000,000";
-    case IBISLADDER_REFUSED_LIST: return "there are more than 100 notices or energies, or they are not whole";
+    case IBISLADDER_REFUSED_LIST: return "the list is not of whole notices, or has more than 100";
     case IBISLADDER_REFUSED_PROFILE: return "the profile is neither 1 nor 2";
-    case IBISLADDER_REFUSED_OUTPUT: return "the output has no room for what is to be written, or the totals for three numbers";
-    case IBISLADDER_REFUSED_ENERGY: return "the energy is above 1,500,000,000 eighteenths of a Wh";
+    case IBISLADDER_REFUSED_OUTPUT: return "the output has no room for a line for each notice, or the totals for three numbers";
     case IBISLADDER_REFUSED_DAY: return "the day is outside the winter period, 1 December to 31 March";
     case IBISLADDER_REFUSED_EXCLUDED: return "the day is excluded";
     case IBISLADDER_REFUSED_WEEKEND: return "this profile has no events on weekends";
@@ -227,33 +208,19 @@ static inline const char *ibisladder_event_text(uint64_t code)
 uint32_t ibisladder_check(uint32_t winter, uint32_t profile, const uint8_t *list, size_t list_length);
 
 /*
- * What the events of a list spared, under profile 1, the winter credit. Lengths are in bytes: 96 N the book, 12 a notice the list,
- * and at least 24 a notice the output.
+ * Settles the notices of a list under profile 1, the winter credit. Lengths are in bytes: 96 N the book, 12 a notice the list, and
+ * at least 32 a notice the output.
  *
- * Gives 0 and has written a line of three numbers for each notice, in the order of the list: code, place and energy; what is behind
- * the last line in the output is left as it was. Or gives why not, and has written nothing: 1, 2, 4 and 6 in this order, then the
- * numbers of the notices as ibisladder_check gives them under profile 1. An empty list is accepted.
+ * Gives 0 and has written a line for each notice, in the order of the list; what is behind the last line in the output is left as
+ * it was. Or gives why not, and has written nothing: 1, 2, 3, 4 and 6 in this order, then the numbers of the notices as
+ * ibisladder_check gives them under profile 1.
  *
  * A reading that no event needs is not looked at: it may be missing or anything else. Hour 2 of the Sunday the clocks go forward
  * is never needed: on that day events that start at 6 or 7 warm up in other hours, and for such events of later days it is no
  * reference day (docs/RULES.md, rules 5.1 and 5.4).
  */
-uint32_t ibisladder_energies(uint32_t winter, const uint8_t *book, size_t book_length, const uint8_t *list, size_t list_length,
-                             uint8_t *out, size_t out_length);
-
-/*
- * The cents of energies that stand in a row, at a price. Lengths are in bytes: 4 an energy the energies, and at least 8 an energy the
- * output.
- *
- * Gives 0 and has written one number for each energy, its cents, in the order of the energies; what is behind the last one in the
- * output is left as it was. Or gives why not, and has written nothing: 3, 4 and 6 in this order, then 7 for the first energy that is
- * too high. A row without energies is accepted, and nothing is written.
- *
- * The energies may be those of a winter's lines or any others. Of those that are lent, in their order, this is proved: no energy has
- * negative cents; the cents of any that follow each other are together off from their exact worth by less than a cent, and where they
- * begin with the first, as all of them do, by no more than half a cent (docs/RULES.md, rules 10.6 to 10.9).
- */
-uint32_t ibisladder_cents(uint32_t price, const uint8_t *energies, size_t energies_length, uint8_t *out, size_t out_length);
+uint32_t ibisladder_settle(uint32_t winter, const uint8_t *book, size_t book_length, uint32_t price, const uint8_t *list,
+                           size_t list_length, uint8_t *out, size_t out_length);
 
 /*
  * Settles the notices of a medium-power site under profile 2, the power option. Lengths are in bytes: 96 N the book, 12 a notice

@@ -1,8 +1,7 @@
 """Asks for the figures of docs/RULES.md in every way that there is, and of the second program too.
 
 Each figure is asked of its layer by itself where it is one of a layer's, called from C, and as a
-text, which one of two calls alone and the medium-power settlement have not. All must say what the
-figure says, and what it says nothing of must stay in every output.
+text, which the medium-power settlement has not. All must say what the figure says.
 The last line printed is "N passed, M failed".
 """
 
@@ -15,9 +14,9 @@ from cases.calls import both_of_calls
 from cases.checks import check_figure, check_same, shown
 from cases.event_books import bare_query, with_readings
 from cases.figures import (
-    CENTS_FIGURES, CHECK_FIGURES, CLOCK_SUNDAY, DAY_FIGURES, EASTER_DAYS, EASTER_LISTS,
-    ENERGIES_FIGURES, EVENT_FIGURES, FIXED_DAYS, HUNDRED_HOURS, LIST_FIGURES, POWER_FIGURES,
-    REFERENCES, SETTLEMENT_FIGURES, SUNDAY_HOURS,
+    CHECK_FIGURES, CLOCK_SUNDAY, DAY_FIGURES, EASTER_DAYS, EASTER_LISTS, EVENT_FIGURES,
+    FIXED_DAYS, HUNDRED_HOURS, LIST_FIGURES, POWER_FIGURES, REFERENCES, SETTLEMENT_FIGURES,
+    SUNDAY_HOURS,
 )
 from cases.layers import (
     both_of_days, both_of_events, both_of_lists, fields, number_and_place, pairs,
@@ -175,7 +174,7 @@ def all_tests():
             (f"{name}, {way}", partial(check_figure, cases, both_of_calls, calls.told))
             for way, figures in (
                 ("checked from C", CHECK_FIGURES), ("from C", SETTLEMENT_FIGURES),
-                ("from C", ENERGIES_FIGURES), ("from C", CENTS_FIGURES), ("from C", POWER_FIGURES),
+                ("from C", POWER_FIGURES),
             )
             for name, cases in figures
         ),

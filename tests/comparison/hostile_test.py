@@ -24,9 +24,8 @@ SOURCES = [DRIVERS / f"{part}.c" for part in ("hostile", "trial", "material", "d
 # are told as events.
 POSSIBLE = {
     "check": sorted(set().union(*numbers.LIST_CHECK.values())),
-    "energies": numbers.ENERGIES["energies"],
-    "line": numbers.ENERGIES["line"],
-    "cents": numbers.CENTS["cents"],
+    "settle": numbers.SETTLEMENT["settlement"],
+    "line": numbers.SETTLEMENT["line"],
     "power": numbers.POWER["power"],
     "event": numbers.POWER["line"],
 }
@@ -37,15 +36,15 @@ WITHOUT_LEAKS = {**os.environ, "ASAN_OPTIONS": "detect_leaks=0"}
 
 class Extent(NamedTuple):
     """How much is tried: the longest of the lengths that are all tried with each other, how
-    many lists, books and rows are drawn, and how many calls that makes at least."""
+    many lists and books are drawn, and how many calls that makes at least."""
     longest: int
     drawn: int
     least_calls: int
 
 
 # In an emulator a call takes some hundred times as long.
-SANITIZED_EXTENT = Extent(longest=36, drawn=50_000, least_calls=1_000_000)
-DELIVERED_EXTENT = Extent(longest=8, drawn=600, least_calls=60_000)
+SANITIZED_EXTENT = Extent(longest=36, drawn=50_000, least_calls=800_000)
+DELIVERED_EXTENT = Extent(longest=8, drawn=600, least_calls=45_000)
 
 SEEDS = {"end": 2026, "start": 2027}
 

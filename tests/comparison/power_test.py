@@ -12,7 +12,7 @@ from functools import partial
 from typing import NamedTuple
 
 from cases.calls import (
-    POWER_LINE_BYTES, TOTALS_BYTES, both_of_calls, lines_of, output_before, told, totals_of,
+    LINE_BYTES, TOTALS_BYTES, both_of_calls, lines_of, output_before, told, totals_of,
 )
 from cases.checks import check_built, check_every, check_group, check_happened, check_share
 from cases.notice_lists import notices_in, room
@@ -141,7 +141,7 @@ def check_untouched(answered):
     tally = Counter()
     for case, given in answered:
         query, accepted = case.query, given.answer == 0
-        written = (POWER_LINE_BYTES * len(lines_of(case, given)), TOTALS_BYTES * accepted)
+        written = (LINE_BYTES * len(lines_of(case, given)), TOTALS_BYTES * accepted)
         lengths = (query.length, query.totals_length)
         outputs = (given.output, given.totals)
         for name, filled, length, after in zip(("lines", "totals"), written, lengths, outputs):

@@ -1,10 +1,8 @@
 """Compares the library, called from C, with the second program, call by call.
 
-The driver checks lists and settles winters with lent bytes: by the energies and their cents in a
-row, or by the energies alone. second/two_calls.py is asked the same. The answers and every byte
-of the outputs must be the same, and nothing else may be touched. Where a call was built for an
-answer, the library must give it too. What two calls in a row leave must be the settlement of
-second/settlements.py, which is one walk at one price.
+The driver makes both calls with lent bytes, and second/settlements.py is asked the same. The
+answers and every byte of the outputs must be the same, and nothing else may be touched. Where a
+call was built for an answer, the library must give it too.
 The last line printed is "N passed, M failed".
 """
 
@@ -13,12 +11,9 @@ from datetime import date, timedelta
 from fractions import Fraction
 from functools import partial
 
-from cases.calls import (
-    CENTS_BYTES, LINE_BYTES, Settle, ask, cents_of, first_lines, is_settlement, lines_of,
-    output_before, told,
-)
+from cases.calls import LINE_BYTES, both_of_calls, is_settlement, lines_of, output_before, told
 from cases.checks import (
-    check_built, check_every, check_group, check_happened, check_share, check_worth, shown,
+    check_built, check_every, check_group, check_happened, check_share, check_worth,
 )
 from cases.notice_lists import open_days
 from cases.settlement_books import LARGEST_ENERGY
@@ -31,14 +26,6 @@ from second.notices import PROFILES
 # accepted, and this many with a notice at least.
 LEAST_ACCEPTED_PERCENT = 50
 LEAST_ACCEPTED_WITH_LINES = 2_000
-
-# So many of each kind must be made in a row, accepted and refused.
-LEAST_IN_A_ROW = 1_000
-
-# What the cents can give right behind the energies: as many as there are notices are never too
-# many, and none of them is too high.
-SECOND_IN_A_ROW = "behind them"
-IN_A_ROW = (0, 3, 6)
 
 # In cents, exactly: 25 mornings that spare the most, at the highest price.
 LARGEST_WORTH = settlements.worth(25 * LARGEST_ENERGY, 1_000_000)
@@ -64,34 +51,25 @@ MUST_HAPPEN = (
 # The tests.
 
 
-def in_a_row(query):
-    """Whether both calls were asked for."""
-    return isinstance(query, Settle)
-
-
 def settled_rows(answered):
     """The lines of accepted settlements that have any, with the price."""
     rows = ((lines_of(case, given), case.query) for case, given in answered)
-    return [(lines, query.price) for lines, query in rows if lines and in_a_row(query)]
+    return [(lines, query.price) for lines, query in rows if lines]
 
 
-def numbers_of(query, given):
-    """The calls that were made, each with its number."""
-    if not is_settlement(query):
-        profile = f"profile {query.profile}" if query.profile in PROFILES else "neither"
-        return [(profile, given.number())]
-    if given.by_second():
-        return [("energies", 0), (SECOND_IN_A_ROW, given.number())]
-    return [("energies", given.number())]
+def column_of(query):
+    """The call whose possible numbers are meant."""
+    if is_settlement(query):
+        return "settlement"
+    return f"profile {query.profile}" if query.profile in PROFILES else "neither"
 
 
 def check_every_number(answered):
     """Each possible number was given by each call at least once, each possible code by some
     line, and no other."""
-    tally = Counter(pair for case, given in answered for pair in numbers_of(case.query, given))
-    lines = (line for case, given in answered for line in first_lines(case, given))
-    tally.update(("line", line.code) for line in lines)
-    check_every(tally, numbers.LIST_CHECK | numbers.ENERGIES | {SECOND_IN_A_ROW: IN_A_ROW})
+    tally = Counter((column_of(case.query), given.number()) for case, given in answered)
+    tally.update(("line", line.code) for lines, _ in settled_rows(answered) for line in lines)
+    check_every(tally, numbers.LIST_CHECK | numbers.SETTLEMENT)
 
 
 def kinds_taken(winter, days):
@@ -164,58 +142,21 @@ def check_accepted(answered):
 
 
 def check_untouched(answered):
-    """A refusal changed no byte of either output, and an accepted call none past the last line or
-    the last line's cents."""
-    tally = Counter()
+    """A refusal changed no byte of the output, and an accepted call none past the last
+    line."""
+    refused = spare = 0
     for case, given in answered:
-        query = case.query
-        if not is_settlement(query):
+        if not is_settlement(case.query):
             continue
-        written = (
-            LINE_BYTES * len(first_lines(case, given)), CENTS_BYTES * len(cents_of(case, given)),
-        )
-        lengths = (query.length, query.totals_length)
-        outputs = (given.output, given.totals)
-        accepted = (given.answer == 0 or given.by_second(), given.answer == 0)
-        for name, filled, length, after, yes in zip(
-            ("lines", "cents"), written, lengths, outputs, accepted,
-        ):
-            if after[filled:] != output_before(query.fill, length)[filled:]:
-                raise Failure(f"bytes that should stay were changed: {query}: {given}")
-            tally[name, yes] += length > filled
-    for (name, accepted), count in sorted(tally.items()):
-        kind = "longer than needed" if accepted else "of refused calls"
-        print(f"  {name} {kind}: {count}")
-    if len(+tally) < 4:
+        filled = LINE_BYTES * len(lines_of(case, given))
+        before = output_before(case.query.fill, case.query.length)
+        if given.output[filled:] != before[filled:]:
+            raise Failure(f"bytes that should stay were changed: {case.query}: {given}")
+        refused += given.answer != 0 and case.query.length > 0
+        spare += given.answer == 0 and case.query.length > filled
+    print(f"  outputs of refused calls: {refused}; longer than needed: {spare}")
+    if min(refused, spare) == 0:
         raise Failure("there were none of a kind")
-
-
-def both_and_at_once(at_once, queries):
-    """What the library and the second program give for these queries. What two calls in a row must
-    come to by the settlement at once is kept for later: the energies are worked out already."""
-    said, right = ask(queries), []
-    for query in queries:
-        right.append(query.right())
-        at_once += [query.at_once()] if in_a_row(query) else []
-    return said, right
-
-
-def check_in_a_row(answered, at_once):
-    """Two calls in a row leave the codes, places, energies, cents and sums of the settlement that
-    is one walk at one price, or are refused as they must be."""
-    tally = Counter()
-    rows = [(case, given) for case, given in answered if in_a_row(case.query)]
-    for (case, given), right in zip(rows, at_once, strict=True):
-        lines = lines_of(case, given)
-        sums = (sum(line.energy for line in lines), sum(line.cents for line in lines))
-        left = (given.number(), given.place(), lines, *sums)
-        if left != tuple(right):
-            raise Failure(f"{case.query}: {shown(left)}, at once {shown(right)}")
-        tally["accepted" if given.answer == 0 else "refused"] += 1
-        tally["lines"] += len(lines)
-    print("  " + "  ".join(f"{name}: {count}" for name, count in sorted(tally.items())))
-    if min(tally["accepted"], tally["refused"]) < LEAST_IN_A_ROW:
-        raise Failure(f"fewer than {LEAST_IN_A_ROW} of a kind")
 
 
 def check_runs(answered):
@@ -237,10 +178,9 @@ def check_all_happened(answered):
 
 def all_tests():
     """Every test, as its name and a check that raises Failure."""
-    answered, at_once = [], []
-    both = partial(both_and_at_once, at_once)
+    answered = []
     return [
-        *((name, partial(check_group, make, both, answered)) for name, make in GROUPS),
+        *((name, partial(check_group, make, both_of_calls, answered)) for name, make in GROUPS),
         ("what calls were built for", partial(check_built, told, answered)),
         ("every possible number and code was given", partial(check_every_number, answered)),
         ("code 20 cannot be given", partial(check_no_code_20, answered)),
@@ -248,10 +188,6 @@ def all_tests():
         ("the Sunday the clocks go back is not read", partial(check_back_never_read, answered)),
         ("enough settlements were accepted", partial(check_accepted, answered)),
         ("what should stay was not touched", partial(check_untouched, answered)),
-        (
-            "two calls in a row are the settlement at once",
-            partial(check_in_a_row, answered, at_once),
-        ),
         ("every run of lines is worth its cents", partial(check_runs, answered)),
         ("all that can happen to cents happened", partial(check_all_happened, answered)),
     ]

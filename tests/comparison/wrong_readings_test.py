@@ -1,32 +1,22 @@
 """Runs wrong readings of the rules, each on an input made for it.
 
 On that input a wrong reading gives another answer than the second program, or the test fails;
-and the library must give the second program's: event by event, from C, and as a text. Readings of
-the two calls' own rules, their orders, rooms and bytes among them, are run from C alone.
+and the library must give the second program's: event by event, from C, and as a text.
 The last line printed is "N passed, M failed".
 """
 
 from functools import partial
 from typing import NamedTuple
 
-from cases.calls import (
-    LINE_BYTES, Cents, Settle, both_of_calls, cents_of, first_lines, lines_of,
-)
-from cases.checks import Case, check_same, shown
+from cases.calls import LINE_BYTES, Settle, both_of_calls
+from cases.checks import check_same
 from cases.event_books import bare_query, stepped_book, with_readings
 from cases.figures import limit_query, sample_query
 from cases.layers import both_of_events, told
 from cases.notice_lists import flat, notices_in
-from cases.settlement_books import LEVEL, Saving, book_length, level_book, packed
+from cases.settlement_books import LEVEL, Saving, level_book, packed
 from cases.statement_runs import both_of_texts, read_statement
 from cases.statement_texts import Parts, book_reads
-from cases.wrong_pricing import (
-    Pricing, all_to_the_last, begun, begun_eights, counted_from_one, cut_off, dropped,
-    each_by_itself, energies_then_cents, first_alone, first_for_all, four_numbers_a_line,
-    from_the_last, halves_down, in_32_bits, last_index, list_before_book, no_index,
-    price_at_first, price_before_lines, room_before_list, room_behind_notices, rounded_up,
-    two_numbers_a_line, up_to_each, whole_wh, without_cents,
-)
 from cases.wrong_readings import (
     Reading, always_the_sunday, as_on_any_day, by_each_clock, each_line_by_itself,
     event_hours_out, floored_adjustment, limit_always, lines_by, nearest_whole_wh,
@@ -135,124 +125,7 @@ TRAPS = (
 )
 
 
-# Readings of the second call, each with a call on which it shows: a price, energies, bytes behind
-# these, and the bytes of the output, where these are not just the room.
-
-
-def asked(price, row, more=b"", length=None):
-    """The cents of a row, with these bytes over."""
-    return Cents(price, packed(row) + more, 8 * len(row) if length is None else length, fill=90)
-
-
-HIGHEST, TOO_HIGH = 1_500_000_000, 1_500_000_001
-HALF = [180] * 3
-DRAWN = [81_001, 720_000, 5, 0, 666_018, 128_525]
-
-OF_THE_CENTS = (
-    ("each energy rounded by itself", Pricing(cents=each_by_itself), asked(50_000, HALF)),
-    ("the first energy's cents for all", Pricing(cents=first_for_all), asked(51_967, DRAWN)),
-    ("the first energy's cents and no other", Pricing(cents=first_alone), asked(51_967, DRAWN)),
-    ("what is missing goes to the last", Pricing(cents=all_to_the_last), asked(50_000, HALF)),
-    ("sums from the last energy on", Pricing(cents=from_the_last), asked(50_000, [170, 20])),
-    ("the worth so far for each", Pricing(cents=up_to_each), asked(51_967, DRAWN)),
-    ("no cents at all", Pricing(cents=without_cents), asked(51_967, DRAWN)),
-    ("halves down", Pricing(worth=halves_down), asked(50_000, HALF)),
-    ("the rest of a cent cut off", Pricing(worth=cut_off), asked(50_000, [181, 360])),
-    ("a cent that is begun counts", Pricing(worth=begun), asked(50_000, [179, 1])),
-    ("energies in whole Wh", Pricing(worth=whole_wh), asked(1_000_000, [17, 17, 17])),
-    ("a sum kept in 32 bits", Pricing(worth=in_32_bits), asked(51_967, [HIGHEST] * 3)),
-    ("7 before 6", Pricing(order=(3, 4, 7, 6)), asked(1, [0, TOO_HIGH], length=15)),
-    ("7 before 4", Pricing(order=(3, 7, 4, 6)), asked(1, [TOO_HIGH], b"\1")),
-    ("7 before 4, of 101", Pricing(order=(3, 7, 4, 6)), asked(1, [TOO_HIGH] * 101)),
-    ("7 before 3", Pricing(order=(7, 3, 4, 6)), asked(0, [TOO_HIGH])),
-    ("6 before 4", Pricing(order=(3, 6, 4, 7)), asked(1, [5], b"\1", length=7)),
-    ("6 before 4, of 101", Pricing(order=(3, 6, 4, 7)), asked(1, [5] * 101, length=800)),
-    ("6 before 3", Pricing(order=(6, 3, 4, 7)), asked(0, [5], length=0)),
-    ("4 before 3", Pricing(order=(4, 3, 6, 7)), asked(1_000_001, [5] * 101)),
-    ("4 before 3, a byte over", Pricing(order=(4, 3, 6, 7)), asked(0, [5], b"\1")),
-    ("the place of 7 is the last", Pricing(place=last_index), asked(1, [0, TOO_HIGH, TOO_HIGH])),
-    ("the place of 7 from 1", Pricing(place=counted_from_one), asked(1, [TOO_HIGH, 5])),
-    ("no place of 7", Pricing(place=no_index), asked(1, [0, 5, TOO_HIGH])),
-    ("just 1,500,000,000 is 7", Pricing(highest=HIGHEST - 1), asked(1_000_000, [5, HIGHEST])),
-    ("1,500,000,001 is taken", Pricing(highest=TOO_HIGH), asked(1_000_000, [5, TOO_HIGH])),
-    ("any energy is taken", Pricing(highest=2**32), asked(1, [4_294_967_295])),
-    ("one byte over dropped", Pricing(taken=dropped), asked(50_000, HALF, b"\1")),
-    ("three bytes over dropped", Pricing(taken=dropped), asked(50_000, [180], b"\1\1\1")),
-    ("a byte and no energy: none", Pricing(taken=dropped), asked(50_000, [], b"\1")),
-    (
-        "bytes over rounded up to an energy",
-        Pricing(taken=rounded_up), asked(50_000, [180], b"\264", length=16),
-    ),
-    (
-        "a byte and no energy: one",
-        Pricing(taken=rounded_up), asked(50_000, [], b"\264", length=8),
-    ),
-    ("100 energies are 4", Pricing(most=99), asked(1, [5] * 100)),
-    ("101 energies are taken", Pricing(most=101), asked(1, [5] * 101)),
-    ("no energies are 4", Pricing(least=1), asked(1, [])),
-    ("room for a number that is begun", Pricing(room=begun_eights), asked(1, [5, 5], length=9)),
-    ("room for three numbers an energy", Pricing(numbers=3), asked(1, [5, 5])),
-    ("room for one number more", Pricing(spare=1), asked(1, [5, 5])),
-    ("price 1,000,000 is 3", Pricing(prices=range(1, 1_000_000)), asked(1_000_000, DRAWN)),
-    ("price 1,000,001 is taken", Pricing(prices=range(1, 1_000_002)), asked(1_000_001, DRAWN)),
-    ("price 0 is worth nothing", Pricing(prices=range(1_000_001)), asked(0, DRAWN)),
-    ("price 1 is 3", Pricing(prices=range(2, 1_000_001)), asked(1, [HIGHEST, 5])),
-)
-
-# Readings of both calls in a row. The sample's notice is on day 38, and day 29 has none.
-
-
-def in_a_row(price, listed, length, book_numbers=None):
-    """Both calls on the sample's book, or on so many numbers of it."""
-    book = stepped_book(sample_query())
-    book = book[:len(book) if book_numbers is None else book_numbers]
-    return Settle(2026, packed(book), price, packed(flat(listed)), length, fill=90)
-
-
-SAMPLE_LIST, WRONG_LIST = [(38, 6, 9)], [(29, 6, 9)]
-TOO_MANY = [(38, 6, 9)] * 101
-
-OF_BOTH_CALLS = (
-    ("6 asks for four numbers a notice", four_numbers_a_line, in_a_row(51_967, SAMPLE_LIST, 24)),
-    ("6 asks for two numbers a notice", two_numbers_a_line, in_a_row(51_967, SAMPLE_LIST, 23)),
-    ("3 before any line is written", price_before_lines, in_a_row(0, SAMPLE_LIST, 24)),
-    ("3 before a notice's number", price_at_first, in_a_row(0, WRONG_LIST, 24)),
-    ("3 before 4", price_at_first, in_a_row(1_000_001, TOO_MANY, 24 * 101)),
-    ("3 before 6", price_at_first, in_a_row(0, SAMPLE_LIST, 23)),
-    ("6 before 4, of notices", room_before_list, in_a_row(51_967, TOO_MANY, 24)),
-    ("6 behind the notices", room_behind_notices, in_a_row(51_967, WRONG_LIST, 23)),
-    ("4 before 2", list_before_book, in_a_row(51_967, TOO_MANY, 24 * 101, book_length(2026) - 1)),
-)
-
-
 # The tests.
-
-
-def check_pricing(wrong, query):
-    """The second call: number, place and cents."""
-    given, second = both_of_calls([query])
-    check_same([query], given, second)
-    right = (given[0].number(), given[0].place(), cents_of(Case(query), given[0]))
-    check_differs(right, Pricing().answer(query), wrong.answer(query))
-
-
-def check_settling(wrong, query):
-    """Both calls in a row: number, place, lines and cents."""
-    given, second = both_of_calls([query])
-    check_same([query], given, second)
-    lines = tuple(map(tuple, first_lines(Case(query), given[0])))
-    cents = cents_of(Case(query), given[0])
-    right = (given[0].number(), given[0].place(), lines, cents)
-    check_differs(right, energies_then_cents(query), wrong(query))
-
-
-def check_differs(right, rightly, wrongly):
-    """Read wrongly a call has another answer, and read rightly this one."""
-    print(f"  {shown(right)}, wrongly {shown(wrongly)}")
-    if rightly != right:
-        raise Failure(f"the right reading has {shown(rightly)}, not {shown(right)}")
-    if wrongly == right:
-        raise Failure(f"the wrong reading has the same, {shown(right)}")
 
 
 def check_shows(trap, right, column, name):
@@ -284,7 +157,7 @@ def check_call(trap):
     query = Settle(2026, packed(stepped_book(trap.asked)), trap.price, lent, length)
     given, second = both_of_calls([query])
     check_same([query], given, second)
-    check_shows(trap, [line.cents for line in lines_of(Case(query), given[0])], 1, "cents")
+    check_shows(trap, [line.cents for line in given[0].lines(len(trap.listed()))], 1, "cents")
 
 
 def check_text(trap):
@@ -304,12 +177,6 @@ def all_tests():
         for trap in TRAPS
         for way, check in ways
         if trap.energies_show or check is not check_events
-    ] + [
-        (f"{kind}: {name}, from C", partial(check, *trap))
-        for kind, check, traps in (
-            ("cents", check_pricing, OF_THE_CENTS), ("in a row", check_settling, OF_BOTH_CALLS),
-        )
-        for name, *trap in traps
     ]
 
 

@@ -3,7 +3,7 @@
 Each text must get the statement that stands beside it, which must be the second program's
 too. A wrong use gets a word on standard error and exit status 2, and nothing is printed.
 The mistakes that docs/TEXT.md tells of get the answers that it says, by the second program, and the
-figures of docs/POWER.md are its too, and those of the winter at two rates in docs/STATEMENT.md.
+figures of docs/POWER.md are its too.
 The last line printed is "N passed, M failed".
 """
 
@@ -12,7 +12,6 @@ from functools import partial
 
 from common.harness import ROOT, Failure, ended, run, run_tests, scratch
 from host_page import Site, at, settled
-from second import statements, winters
 from second.energies import MISSING
 from second.statements import statement
 from sources import check_none, rows
@@ -20,10 +19,6 @@ from sources import check_none, rows
 EXAMPLES = sorted((ROOT / "examples").glob("*.txt"))
 SCRIPT = ROOT / "scripts" / "statement"
 POWER_PAGE = ROOT / "docs" / "POWER.md"
-STATEMENT_PAGE = ROOT / "docs" / "STATEMENT.md"
-
-# The head of a column with what lines are worth at a price.
-PRICED = re.compile(r"cents at (\d+)$")
 
 WRONG_USE = 2
 
@@ -86,47 +81,12 @@ def check_mistakes():
     check_none(found, "other answers")
 
 
-# A winter at two rates.
+# The page on medium-power sites.
 
 
 def whole(cell):
-    """A number of a page, without its commas."""
+    """A number of the page, without its commas."""
     return int(cell.replace(",", ""))
-
-
-def rate_rows():
-    """The table of STATEMENT.md with a winter's lines and what they are worth at rates: its prices
-    and its rows."""
-    table = [row for row in rows(STATEMENT_PAGE) if row.head[2:] and PRICED.match(row.head[2])]
-    prices = [int(PRICED.match(head)[1]) for head in table[0].head[2:]] if table else []
-    return prices, [row.cells for row in table]
-
-
-def rows_at(price):
-    """What the table is to have at a price: notice, energy and cents of each line, and of all."""
-    told = statements.said((ROOT / "examples" / "january.txt").read_bytes())
-    given = statements.settled(told._replace(price=price))
-    names = [winters.joined(notice) for notice in told.notices]
-    lines = [(name, line.energy, line.cents) for name, line in zip(names, given.lines)]
-    return [*lines, ("all", given.energy, given.cents)]
-
-
-def check_rates():
-    """The energies of the table and the cents at each of its rates are those of the text with that
-    price, line by line and in all."""
-    prices, table = rate_rows()
-    print(f"  prices: {prices}; rows: {len(table)}")
-    if len(prices) < 2 or len(table) < 2:
-        raise Failure("STATEMENT.md has no table of a winter at two rates")
-    for column, price in enumerate(prices, start=2):
-        said = [
-            (cells[0].split(", ")[0], whole(cells[1]), whole(cells[column])) for cells in table
-        ]
-        if said != rows_at(price):
-            raise Failure(f"at {price} it is {rows_at(price)}, not {said}")
-
-
-# The page on medium-power sites.
 
 
 def rows_under(head):
@@ -194,7 +154,6 @@ TESTS = [
     ("a folder for a file", partial(check_wrong_use, [ROOT / "examples"])),
     ("two files", partial(check_wrong_use, EXAMPLES[:1] * 2)),
     ("TEXT.md's mistakes get the answers that it says", check_mistakes),
-    ("STATEMENT.md's winter at two rates is the second program's", check_rates),
     ("POWER.md's winter by hand is the second program's", check_power_example),
     ("POWER.md's credits are the second program's", check_power_credits),
 ]

@@ -11,20 +11,16 @@ from typing import NamedTuple
 
 from common.c_programs import HEADER
 from common.harness import ROOT, Failure
-from second import power, two_calls
+from second import power, settlements
 from second.energies import HIGHEST_READING, HOURS, MISSING
 from second.notices import list_check
-from second.settlements import Line
-from second.two_calls import HIGHEST_ENERGY, MOST_ENERGIES, CentsCall, EnergiesCall
+from second.settlements import Call
 
 EXAMPLE = ROOT / "examples" / "host.c"
 
 WINTER = 2026
 DAYS = 151
 MISSING_OR_LARGE = (21, 22)
-
-# The two rates at which the example prices each winter.
-PRICES = (50_000, 51_967)
 
 
 # The header's words.
@@ -45,11 +41,12 @@ def words_of(function):
     return {numbers[name]: words for name, words in cases}
 
 
-# Winters.
+# Settlements.
 
 
 class Account(NamedTuple):
-    """A winter's notices, with their readings by day and hour."""
+    """A winter's notices at a price, with their readings by day and hour."""
+    price: int
     notices: list
     readings: dict
 
@@ -66,20 +63,20 @@ def sample():
         readings |= at([day], [1, 2, 3, 6, 7, 8], reading)
     readings |= at([38], [1, 2, 3], 2500) | at([38], [6, 7, 8], 1000)
     readings |= at([40], [1], HIGHEST_READING + 1)
-    return Account([(38, 6, 9), (39, 16, 17), (40, 6, 7)], readings)
+    return Account(51967, [(38, 6, 9), (39, 16, 17), (40, 6, 7)], readings)
 
 
 def at_limit():
     """C = 11,000, and on the next day 10,999."""
     readings = at(range(DAYS), [1, 2, 3], 1000) | at(range(DAYS), [6, 7, 8], 14000)
     readings |= at([38, 39], [1, 2, 3, 6, 7], 4000) | at([38], [8], 3000) | at([39], [8], 2999)
-    return Account([(38, 6, 9), (39, 6, 9)], readings)
+    return Account(50000, [(38, 6, 9), (39, 6, 9)], readings)
 
 
 def halves():
     """Three lines of half a cent."""
     readings = at(range(DAYS), range(HOURS), 1000) | at([38, 39, 40], [6], 990)
-    return Account([(38, 6, 7), (39, 6, 7), (40, 6, 7)], readings)
+    return Account(50000, [(38, 6, 7), (39, 6, 7), (40, 6, 7)], readings)
 
 
 def flat(notices):
@@ -99,21 +96,14 @@ def line_said(notice, line):
     return f"line={','.join(map(str, (*notice, *line)))}  {words}{where}"
 
 
-def energies_call(notices, book):
-    """The call for the energies of notices, with just the room."""
-    return EnergiesCall(WINTER, book, flat(notices), two_calls.LINE_NUMBERS * len(notices))
-
-
 def account_page(account):
-    """The lines of a winter and the totals, at each rate. Its book is read once."""
-    spared = two_calls.energies_of(energies_call(account.notices, book_of(account.readings)))
-    row = tuple(line.energy for line in spared.lines)
-    for price in PRICES:
-        priced = two_calls.cents_of(CentsCall(price, row, len(row)))
-        lines = [Line(*line, cents) for line, cents in zip(spared.lines, priced.cents)]
-        yield from (f"winter={WINTER}", f"price={price}", f"events={len(account.notices)}")
-        yield from map(line_said, account.notices, lines)
-        yield from (f"energy={spared.energy}", f"total={priced.total}")
+    """The lines of a settlement and the totals."""
+    room = settlements.LINE_NUMBERS * len(account.notices)
+    call = Call(WINTER, book_of(account.readings), account.price, flat(account.notices), room)
+    given = settlements.settlement(call)
+    yield from (f"winter={WINTER}", f"price={account.price}", f"events={len(account.notices)}")
+    yield from map(line_said, account.notices, given.lines)
+    yield from (f"energy={given.energy}", f"total={given.cents}")
 
 
 # Medium-power sites.
@@ -140,7 +130,7 @@ def at_bound(drawn):
 
 def call_of(site):
     """The call that settles a site."""
-    room = power.LINE_NUMBERS * len(site.notices)
+    room = settlements.LINE_NUMBERS * len(site.notices)
     book, listed = book_of(site.readings), flat(site.notices)
     return power.Call(WINTER, book, listed, site.references, room, power.TOTALS_NUMBERS)
 
@@ -184,30 +174,17 @@ def long_lists():
     yield "a byte over", list_check(WINTER, 1, None)
 
 
-def refused_energies():
-    """Calls for energies that are refused for other reasons than the list."""
-    right = energies_call([(38, 6, 9)], book_of({}))
+def refused_settlements():
+    """Settlements that are refused for other reasons than the list."""
+    book, notice = book_of({}), (38, 6, 9)
+    right = Call(WINTER, book, 51967, notice, settlements.LINE_NUMBERS)
     for tried, call in (
         ("a byte of the book missing", right._replace(book=None)),
         ("151 days in a leap year", right._replace(winter=WINTER + 1)),
-        ("a byte of the output missing", right._replace(room=right.room - 1)),
-    ):
-        yield tried, two_calls.energies_of(call)
-
-
-def refused_cents():
-    """Calls for cents that are refused, and one on no energies."""
-    two = (HIGHEST_ENERGY, HIGHEST_ENERGY + 1)
-    right = CentsCall(PRICES[0], two, len(two))
-    for tried, call in (
         ("no price", right._replace(price=0)),
-        ("101 energies", right._replace(energies=two + (0,) * (MOST_ENERGIES - 1))),
-        ("an energy and a byte", right._replace(energies=None)),
-        ("a byte of the cents missing", right._replace(room=right.room - 1)),
-        ("a second energy of 1,500,000,001", right),
-        ("no energies", right._replace(energies=())),
+        ("a byte of the output missing", right._replace(room=settlements.LINE_NUMBERS - 1)),
     ):
-        yield tried, two_calls.cents_of(call)
+        yield tried, settlements.settlement(call)
 
 
 def refused_sites():
@@ -229,15 +206,15 @@ def refusals_said(answers):
 
 
 def refusal_page():
-    """All refusals: of lists, of energies, of cents and of sites."""
+    """All refusals: of lists, of settlements and of sites."""
     answers = [
         (tried, list_check(winter, profile, flat(notices)))
         for tried, winter, profile, notices in trials()
     ]
-    yield from refusals_said([*answers, *long_lists()])
-    for refused in (refused_energies, refused_cents, refused_sites):
-        yield from refusals_said(refused())
-        yield "written by these: nothing"
+    yield from refusals_said([*answers, *long_lists(), *refused_settlements()])
+    yield "written by these: nothing"
+    yield from refusals_said(refused_sites())
+    yield "written by these: nothing"
 
 
 def page():

@@ -19,15 +19,15 @@ from common.c_programs import (
 )
 from common.harness import ROOT, Failure, complaint, ended, run, run_tests, scratch
 from host_page import EXAMPLE, enumerated, page, words_of
-from second import energies, notices, numbers, power, settlements, two_calls, winters
+from second import numbers
 from second.statements import statement
 from sources import check_none
 
 EXPECTED = ROOT / "examples" / "host.expected"
 
-# What the four calls are to need of a C library: what a C compiler asks of any.
+# What the three calls are to need of a C library: what a C compiler asks of any.
 ALLOWED_NEEDS = {"memcpy", "memset", "memmove"}
-CALLS = {"ibisladder_check", "ibisladder_energies", "ibisladder_cents", "ibisladder_power"}
+CALLS = {"ibisladder_check", "ibisladder_settle", "ibisladder_power"}
 
 STATEMENT = ROOT / "target" / "bin" / "statement"
 SAMPLE = ROOT / "examples" / "winter.txt"
@@ -61,23 +61,6 @@ def check_words(function, prefix, possible):
     check_none(sorted(set(possible) - set(words)), "possible numbers without words")
     if len(set(words.values())) < len(words):
         raise Failure(f"the same words twice: {sorted(words.values())}")
-
-
-def check_sizes():
-    """The header's sizes and bounds are those of the second program."""
-    said = dict(re.findall(r"#define IBISLADDER_(\w+) (\d+)u", HEADER.read_text()))
-    right = {
-        "MOST_NOTICES": notices.MOST_NOTICES, "MOST_ENERGIES": two_calls.MOST_ENERGIES,
-        "NOTICE_NUMBERS": 3, "LINE_NUMBERS": two_calls.LINE_NUMBERS,
-        "POWER_LINE_NUMBERS": power.LINE_NUMBERS, "TOTAL_NUMBERS": power.TOTALS_NUMBERS,
-        "NUMBER_BYTES": settlements.LENT_BYTES, "OUT_NUMBER_BYTES": settlements.OUTPUT_BYTES,
-        "HIGHEST_PRICE": max(settlements.PRICES), "HIGHEST_ENERGY": two_calls.HIGHEST_ENERGY,
-        "HIGHEST_READING": energies.HIGHEST_READING,
-        "HIGHEST_REFERENCE": power.HIGHEST_REFERENCE, "MISSING": energies.MISSING,
-        "FIRST_WINTER": min(winters.WINTERS), "LAST_WINTER": max(winters.WINTERS),
-    }
-    found = [name for name, one in right.items() if said.get(name) != str(one)]
-    check_none(found, "other sizes than the second program's")
 
 
 def version():
@@ -126,7 +109,7 @@ def symbols(*words):
 
 
 def check_given(given, needed):
-    """A library has the four calls and no other name to clash with a host's."""
+    """A library has the three calls and no other name to clash with a host's."""
     if given != CALLS:
         raise Failure(f"it has {sorted(given)}, not {sorted(CALLS)}")
     if not needed <= ALLOWED_NEEDS:
@@ -311,22 +294,21 @@ TESTS = [
     ("the header is C++17", partial(check_header, "c++", "c++", "c++17")),
     ("words for every refusal", partial(
         check_words, "ibisladder_refusal_text", ("IBISLADDER_ACCEPTED", "IBISLADDER_REFUSED_"),
-        {
-            *numbers.ENERGIES["energies"], *numbers.CENTS["cents"], *numbers.POWER["power"],
-        }.union(*numbers.LIST_CHECK.values()),
+        {*numbers.SETTLEMENT["settlement"], *numbers.POWER["power"]}.union(
+            *numbers.LIST_CHECK.values()
+        ),
     )),
     ("words for every event code", partial(
         check_words, "ibisladder_event_text", ("IBISLADDER_EVENT_",), numbers.CODES,
     )),
-    ("sizes and bounds are the second program's", check_sizes),
     ("the version is said once", version),
     ("host.expected is the second program's", check_expected),
-    ("the archive has the four calls alone", check_symbols),
+    ("the archive has the three calls alone", check_symbols),
     ("the archive has no writable state", check_no_state),
     ("the example with the delivered archive", check_delivered),
     ("the example under sanitizers", check_sanitized),
     ("make install, and the example with its flags", check_installed),
-    ("make install: the shared library has the four calls alone", check_shared),
+    ("make install: the shared library has the three calls alone", check_shared),
     ("make install: the example with the shared library", check_shared_example),
     ("make install: the program", check_program),
     ("make install: the man pages", check_manuals),

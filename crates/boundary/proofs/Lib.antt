@@ -1,5 +1,4 @@
-pub mod CentsLaws
-pub mod EnergiesLaws
 pub mod Fronts
 pub mod RightLengths
+pub mod SettleLaws
 pub mod Told

@@ -1,4 +1,4 @@
--- Laws of lengths that the call of the energies does not refuse: they are of whole numbers, and there is room for these.
+-- Laws of lengths that the settlement's call does not refuse: they are of whole numbers, and there is room for these.
 -- Assumes nothing.
 use Prim.Native.Nat.{ℕ, ◌*◌, ◌/◌, ◌%◌, ◌≤◌}
 use mathlib.Core.Logic.{⊎_elim}
@@ -6,9 +6,9 @@ use mathlib.Core.Path.{◌≡◌}
 use native.Mathlib.Omega.{arith}
 use Rattle.dates.proofs.Promise.{days_two}
 use Rattle.dates.specs.Winters.{days}
+use Rattle.credit.specs.Lines.{line_numbers}
+use Rattle.credit.proofs.RefusalLaws.{RightCall}
 use Rattle.notices.specs.Notices.{count_in}
-use Rattle.settlement.proofs.CallLaws.{RightCall}
-use Rattle.settlement.specs.Lines.{line_numbers}
 use Rattle.wire.proofs.DecodedLaws.{whole_numbers}
 use Rattle.wire.specs.Decoded.{number_count}
 use Rattle.boundary.specs.Whole.{Lengths}
@@ -19,8 +19,8 @@ pub record RightLengths (book list out : ℕ) : Type 0 where
   pub lines_fit : line_numbers * count_in (list / 4) ≤ out / 8
   pub lengths : Lengths book list out
 
-pub right_lengths : (w book list out : ℕ) → RightCall w (number_count book) (number_count list) (out / 8) → RightLengths book list out
-right_lengths w book list out s =
+pub right_lengths : (w p book list out : ℕ) → RightCall w (number_count book) p (number_count list) (out / 8) → RightLengths book list out
+right_lengths w p book list out s =
     let most : days w ≤ 152 = ⊎_elim (λ (e : days w ≡ 151). omega arith) (λ (e : days w ≡ 152). omega arith) (days_two w) in
     let hours = s.book in
     let few = s.few in

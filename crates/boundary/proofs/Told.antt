@@ -9,18 +9,13 @@ use lib.ListN.{length, get_or}
 use borrow.Author.Tests.{eq-eqb, ne_eqb}
 use Rattle.laws.specs.Answer.{Answer}
 use Rattle.laws.specs.Bounds.{largest_place}
-use Rattle.money.proofs.PricingLaws as pricing
-use Rattle.money.specs.Cents.{cents_to}
-use Rattle.money.specs.Pricing.{cents_of}
-use Rattle.money.specs.declared.pricing.Priced.{Priced}
+use Rattle.credit.proofs.SettlementLaws.{number_is, settled_accepted, settlement_bounded}
+use Rattle.credit.specs.Settlement.{settlement}
+use Rattle.credit.specs.declared.call.Settlement.{Settlement}
 use Rattle.schedule.proofs.Bounds.{check_bounded}
 use Rattle.schedule.specs.ListCheck.{check_answer}
-use Rattle.settlement.proofs.EnergiesLaws.{number_is, answer_accepted, answer_bounded}
-use Rattle.settlement.specs.Energies.{energies_of}
-use Rattle.settlement.specs.declared.call.Spared.{Spared}
-use Rattle.wire.specs.Bytes.{bytes_over}
 use Rattle.wire.specs.Decoded.{decoded}
-use Rattle.boundary.specs.Calls.{packed, check_call, lines_over, energies_over, energies_call, energies_bytes, cents_over, cents_call, cents_bytes}
+use Rattle.boundary.specs.Calls.{packed, check_call, lines_over, settled_over, settle_call, settle_bytes}
 
 -- number and place of one packed number
 pub packed_told : (number place : ℕ) → place ≤ largest_place → (packed number place / 65536 ≡ number) × (packed number place % 65536 ≡ place)
@@ -35,51 +30,28 @@ module _ (w profile : ℕ) (list : List ℕ) where
   unfolding check_call
   check_told = packed_told _ _ (check_bounded w (decoded list) profile).1
 
--- of the energies
-module _ (w : ℕ) (book list out : List ℕ) where
-  abbrev spared : Spared
-  spared = energies_of w (decoded book) (decoded list) (length out / 8)
+-- of a settlement
+module _ (w p : ℕ) (book list out : List ℕ) where
+  abbrev settled : Settlement
+  settled = settlement w (decoded book) p (decoded list) (length out / 8)
 
-  pub energies_told : (energies_call w book list (length out) / 65536 ≡ spared.number) × (energies_call w book list (length out) % 65536 ≡ spared.place)
-  unfolding energies_call
-  energies_told = packed_told _ _ (answer_bounded w (decoded book) (decoded list) (length out / 8)).1
+  pub settle_told : (settle_call w book p list (length out) / 65536 ≡ settled.number) × (settle_call w book p list (length out) % 65536 ≡ settled.place)
+  unfolding settle_call
+  settle_told = packed_told _ _ (settlement_bounded w p (decoded book) (decoded list) (length out / 8)).1
 
   -- rule 9.5: an accepted call answers 0
-  pub energies_accepted : spared.number ≡ 0 → energies_call w book list (length out) ≡ 0
-  unfolding energies_call
-  energies_accepted z =
-      let none = number_is w (decoded book) (decoded list) (length out / 8) z in
-      omega (arith, z, ap (λ (s : Spared). s.place) (answer_accepted w (decoded book) (decoded list) (length out / 8) none))
+  pub accepted_told : settled.number ≡ 0 → settle_call w book p list (length out) ≡ 0
+  unfolding settle_call
+  accepted_told z =
+      let none = number_is w p (decoded book) (decoded list) (length out / 8) z in
+      omega (arith, z, ap (λ (s : Settlement). s.place) (settled_accepted w p (decoded book) (decoded list) (length out / 8) none))
 
   -- rules 9.7 and 10.2: a refused call leaves every byte
-  pub energies_unwritten : (energies_call w book list (length out) ≡ 0 → ⊥) → energies_bytes w book list out ≡ out
-  unfolding energies_bytes energies_over
-  energies_unwritten f = rw (ne_eqb spared.number 0 (λ (z : spared.number ≡ 0). f (energies_accepted z)))
+  pub refused_unwritten : (settle_call w book p list (length out) ≡ 0 → ⊥) → settle_bytes w book p list out ≡ out
+  unfolding settle_bytes settled_over
+  refused_unwritten f = rw (ne_eqb settled.number 0 (λ (z : settled.number ≡ 0). f (accepted_told z)))
 
-  -- an accepted one leaves the bytes of its lines
-  pub lines_written : spared.number ≡ 0 → energies_bytes w book list out ≡ lines_over w (decoded book) (decoded list) out
-  unfolding energies_bytes energies_over
-  lines_written z = rw (eq-eqb spared.number 0 z)
-
--- the same of the cents
-module _ (p : ℕ) (energies out : List ℕ) where
-  abbrev priced : Priced
-  priced = cents_of p (decoded energies) (length out / 8)
-
-  pub cents_told : (cents_call p energies (length out) / 65536 ≡ priced.number) × (cents_call p energies (length out) % 65536 ≡ priced.place)
-  unfolding cents_call
-  cents_told = packed_told _ _ (pricing.answer_bounded p (decoded energies) (length out / 8)).1
-
-  pub cents_accepted : priced.number ≡ 0 → cents_call p energies (length out) ≡ 0
-  unfolding cents_call
-  cents_accepted z =
-      let none = pricing.number_is p (decoded energies) (length out / 8) z in
-      omega (arith, z, ap (λ (s : Priced). s.place) (pricing.answer_accepted p (decoded energies) (length out / 8) none))
-
-  pub cents_unwritten : (cents_call p energies (length out) ≡ 0 → ⊥) → cents_bytes p energies out ≡ out
-  unfolding cents_bytes cents_over
-  cents_unwritten f = rw (ne_eqb priced.number 0 (λ (z : priced.number ≡ 0). f (cents_accepted z)))
-
-  pub cents_written_lem : priced.number ≡ 0 → cents_bytes p energies out ≡ bytes_over (cents_to p (decoded energies)) (length (decoded energies)) out
-  unfolding cents_bytes cents_over
-  cents_written_lem z = rw (eq-eqb priced.number 0 z)
+  -- an accepted settlement leaves the bytes of its lines
+  pub accepted_written : settled.number ≡ 0 → settle_bytes w book p list out ≡ lines_over w (decoded book) p (decoded list) out
+  unfolding settle_bytes settled_over
+  accepted_written z = rw (eq-eqb settled.number 0 z)

@@ -30,10 +30,10 @@ pub facts_given : (y n december first march after : ℕ) → no_winter y ≡ fal
     → after ≡ after_march_first (y + 1)
     → facts_paper (record { days = n; december = december; first = first; easter = march + after }) ≡ winter_facts y
 unfolding winter_facts winter_of easter_in_book first_value
-facts_given y n december first march after w n-is december-is first_is march-is after_is =
+facts_given y n december first march after w n-is december-is first-is march-is after_is =
     let d : december ≡ 30 = december-is ∙ ap first_value (december_first y w) in
     let m = march-is ∙ ap first_value (march_first_lem y w) in
-    kept (refusal 1) w (rw (n-is, d, first_is, m, after_is))
+    kept (refusal 1) w (rw (n-is, d, first-is, m, after_is))
 
 -- in which no sum wraps
 pub easter_fits : (y march after : ℕ) → no_winter y ≡ false → march ≡ first_of y 3 → after ≡ after_march_first (y + 1) → march + after ≤ 177

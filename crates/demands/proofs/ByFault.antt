@@ -26,10 +26,10 @@ module _ (book places : List ℕ) (energy : ℕ) where
   readings_by (Missing p) told z = absurd (omega (arith, z))
   readings_by (TooLarge p) told z = absurd (omega (arith, z))
 
-  settled_by : (f : Fault) → (by_fault f energy).code ≡ 0 → ((by_fault f energy).place ≡ 0) × ((by_fault f energy).energy ≡ energy)
-  settled_by Clean z = (refl, refl)
-  settled_by (Missing p) z = absurd (omega (arith, z))
-  settled_by (TooLarge p) z = absurd (omega (arith, z))
+  settled_by_lem : (f : Fault) → (by_fault f energy).code ≡ 0 → ((by_fault f energy).place ≡ 0) × ((by_fault f energy).energy ≡ energy)
+  settled_by_lem Clean z = (refl, refl)
+  settled_by_lem (Missing p) z = absurd (omega (arith, z))
+  settled_by_lem (TooLarge p) z = absurd (omega (arith, z))
 
   abbrev event : Event
   event = by_fault (first_fault book places) energy
@@ -41,7 +41,7 @@ module _ (book places : List ℕ) (energy : ℕ) where
   )
 
   pub settled_so : event.code ≡ 0 → (event.place ≡ 0) × (event.energy ≡ energy)
-  settled_so = settled_by (first_fault book places)
+  settled_so = settled_by_lem (first_fault book places)
 
   pub unsettled_so : (event.code ≡ 0 → ⊥) → Unsettled book places event.code event.place event.energy
   unsettled_so = unsettled_by (first_fault book places) (first_found book places)

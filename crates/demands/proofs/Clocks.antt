@@ -132,7 +132,7 @@ module _ {y : ℕ} {f : Figures} {l : List ℕ} (st : Standing y f l) (n : Notic
   }
 
 -- no line of an accepted list has the code 20: it is 0, 21 or 22
-pub never_20 : {winter energy : ℕ} {book list : List ℕ} {s : Sheet} → Demand2 winter book list s energy → (k : ℕ) → k < count_of list → s.code k ≡ 20 → ⊥
+pub never_20 : {winter : ℕ} {book list : List ℕ} {s : Sheet} → Demand2 winter book list s → (k : ℕ) → k < count_of list → s.code k ≡ 20 → ⊥
 never_20 d k h twenty =
     let says = (d.each k h).says in
     ⊎_elim (λ (missing : _). omega (arith, missing.0)) (λ (large : _). omega (arith, large.0)) (says.unsettled (λ z. omega arith)).why

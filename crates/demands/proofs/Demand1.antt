@@ -5,24 +5,20 @@ use Prim.Native.Nat.{ℕ, ◌+◌, ◌/◌, ◌%◌, ◌≤◌, ◌<◌}
 use mathlib.Core.List.{List, [], ◌∷◌}
 use mathlib.Core.Path.{◌≡◌}
 use lib.ListN.{length}
-use Rattle.boundary.proofs.Told.{check_told, energies_told, energies_unwritten, cents_told, cents_unwritten}
-use Rattle.boundary.specs.Calls.{check_call, energies_call, energies_bytes, cents_call, cents_bytes}
+use Rattle.boundary.proofs.Told.{check_told, settle_told, refused_unwritten}
+use Rattle.boundary.specs.Calls.{check_call, settle_call, settle_bytes}
 use Rattle.wire.specs.Decoded.{decoded}
+use Rattle.credit.proofs.Exact.{settlement_tells, refused_untouched, refused_totals}
+use Rattle.credit.specs.Refusals.{settlement_table}
+use Rattle.credit.specs.Settlement.{settlement, written}
 use Rattle.dates.specs.Winters.{days}
 use Rattle.form.proofs.Misplaced.{MisplacedTells, misplaced_tells}
 use Rattle.form.specs.Document.{Document}
 use Rattle.form.specs.Places.{misplaced_line_in}
 use Rattle.laws.proofs.Tells.{Tells, place_in}
-use Rattle.money.proofs.Exact.{cents_tell}
-use Rattle.money.proofs.Exact as money
-use Rattle.money.specs.Pricing.{cents_of, cents_written}
-use Rattle.money.specs.Refusals.{cents_table}
 use Rattle.numerals.specs.Numbers.{numbers_in}
 use Rattle.schedule.proofs.Accepted.{check_tells}
 use Rattle.schedule.specs.ListCheck.{check_table, check_answer}
-use Rattle.settlement.proofs.Exact.{energies_tell, refused_untouched, refused_total}
-use Rattle.settlement.specs.Energies.{energies_of, energies_written}
-use Rattle.settlement.specs.Refusals.{energies_table}
 use Rattle.text.proofs.Told.{TextTold, text_told, refused_shown, answer_there, none_there}
 use Rattle.text.specs.Refusals.{text_refusal}
 use Rattle.text.specs.Statement.{statement_of, answer_room, starts_with, answered_in}
@@ -39,50 +35,29 @@ check_answers_c winter profile list =
     let told = check_told winter profile list in
     rw (told.0, told.1) (check_tells winter profile (decoded list))
 
--- the energies, on numbers; a refusal leaves the output as it was and a total of 0
-module _ (winter : ℕ) (book list out : List ℕ) where
-  pub energies_answers : Tells (energies_table winter (length book) list (length out)) (energies_of winter book list (length out)).number
-      (energies_of winter book list (length out)).place
-  energies_answers = energies_tell winter book list (length out)
+-- the settlement, on numbers; a refusal leaves the output as it was and totals of 0
+module _ (winter price : ℕ) (book list out : List ℕ) where
+  pub settle_answers : Tells (settlement_table winter (length book) price list (length out)) (settlement winter book price list (length out)).number
+      (settlement winter book price list (length out)).place
+  settle_answers = settlement_tells winter price book list (length out)
 
-  module _ (refused : (energies_of winter book list (length out)).number ≡ 0 → ⊥) where
-    pub energies_write_nothing : energies_written winter book list out ≡ out
-    energies_write_nothing = refused_untouched winter book list out refused
+  module _ (refused : (settlement winter book price list (length out)).number ≡ 0 → ⊥) where
+    pub settle_writes_nothing : written winter book price list out ≡ out
+    settle_writes_nothing = refused_untouched winter price book list out refused
 
-    pub energies_no_total : (energies_of winter book list (length out)).energy ≡ 0
-    energies_no_total = refused_total winter book list out refused
+    pub settle_no_totals : ((settlement winter book price list (length out)).energy ≡ 0) × ((settlement winter book price list (length out)).cents ≡ 0)
+    settle_no_totals = refused_totals winter price book list out refused
 
--- the energies from C, of lent bytes
-module _ (winter : ℕ) (book list out : List ℕ) where
-  pub energies_answers_c : Tells (energies_table winter (length (decoded book)) (decoded list) (length out / 8))
-      (energies_call winter book list (length out) / 65536) (energies_call winter book list (length out) % 65536)
-  energies_answers_c =
-      let told = energies_told winter book list out in
-      rw (told.0, told.1) (energies_tell winter (decoded book) (decoded list) (length out / 8))
+-- the settlement from C, of lent bytes
+module _ (winter price : ℕ) (book list out : List ℕ) where
+  pub settle_answers_c : Tells (settlement_table winter (length (decoded book)) price (decoded list) (length out / 8))
+      (settle_call winter book price list (length out) / 65536) (settle_call winter book price list (length out) % 65536)
+  settle_answers_c =
+      let told = settle_told winter price book list out in
+      rw (told.0, told.1) (settlement_tells winter price (decoded book) (decoded list) (length out / 8))
 
-  pub energies_write_nothing_c : (energies_call winter book list (length out) ≡ 0 → ⊥) → energies_bytes winter book list out ≡ out
-  energies_write_nothing_c = energies_unwritten winter book list out
-
--- the cents, on numbers and from C, in the same way
-module _ (price : ℕ) (energies out : List ℕ) where
-  pub cents_answers : Tells (cents_table price energies (length out)) (cents_of price energies (length out)).number (cents_of price energies (length out)).place
-  cents_answers = cents_tell price energies (length out)
-
-  module _ (refused : (cents_of price energies (length out)).number ≡ 0 → ⊥) where
-    pub cents_write_nothing : cents_written price energies out ≡ out
-    cents_write_nothing = money.refused_untouched price energies out refused
-
-    pub cents_no_total : (cents_of price energies (length out)).cents ≡ 0
-    cents_no_total = money.refused_total price energies out refused
-
-  pub cents_answers_c : Tells (cents_table price (decoded energies) (length out / 8))
-      (cents_call price energies (length out) / 65536) (cents_call price energies (length out) % 65536)
-  cents_answers_c =
-      let told = cents_told price energies out in
-      rw (told.0, told.1) (cents_tell price (decoded energies) (length out / 8))
-
-  pub cents_write_nothing_c : (cents_call price energies (length out) ≡ 0 → ⊥) → cents_bytes price energies out ≡ out
-  cents_write_nothing_c = cents_unwritten price energies out
+  pub settle_writes_nothing_c : (settle_call winter book price list (length out) ≡ 0 → ⊥) → settle_bytes winter book price list out ≡ out
+  settle_writes_nothing_c = refused_unwritten winter price book list out
 
 -- a text: from the text to number and place (`TextTold`), which are all that a refused text prints
 pub text_answers : (text : List ℕ) → TextTold text (text_refusal text).number (place_in (text_refusal text))

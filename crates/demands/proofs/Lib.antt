@@ -6,9 +6,6 @@ pub mod Demand3
 pub mod Lendable
 pub mod LentBytes
 pub mod Lines
-pub mod OneCall
-pub mod OneLeft
-pub mod OneStatement
 pub mod Power
 pub mod PowerC
 pub mod Printed

@@ -1,6 +1,5 @@
 -- Demand 2 (rules 10.4 and 10.5), of the lines of an accepted list: each says what its event spared by the formula, or which needed reading is the
--- first that is no reading. Its reference days are said by the calendar and the notices of the list. The energies of the lines are the total
--- (rule 7.7).
+-- first that is no reading. Its reference days are said by the calendar and the notices of the list.
 -- Assumes nothing.
 use Rattle.std.specs.Prelude.{ℕ, ◌*◌, ◌%◌, ◌<◌, true, false, ◌⊎◌, ◌↔◌, ◌≡◌, length, get_or}
 use mathlib.Core.List.{List, Memᴰ}
@@ -15,7 +14,6 @@ use Rattle.energy.specs.Asked.{Asked, asked_with, needed}
 use Rattle.energy.specs.Energy.{energy_of}
 use Rattle.event_hours.proofs.FreeDays.{NoEvent}
 use Rattle.laws.proofs.Every.{Every}
-use Rattle.laws.specs.Sums.{run_of}
 use Rattle.notices.specs.Notices.{count_of, notice_at}
 use Rattle.notices.specs.declared.notices.Notice.{Notice}
 use Rattle.references.specs.WarmUp.{warm_up}
@@ -61,8 +59,7 @@ pub record EventLine (winter : ℕ) (book list : List ℕ) (n : Notice) (code pl
   pub says : SaysOf book (asked_with (winter_of winter) n refs) code place energy
   pub unread : Unread winter (needed (asked_with (winter_of winter) n refs))
 
--- all lines of a sheet: one for each notice, in their order, and their energies are together the total
-pub record Demand2 (winter : ℕ) (book list : List ℕ) (s : Sheet) (energy : ℕ) : Type 0 where
+-- all lines of a sheet: one for each notice, in their order
+pub record Demand2 (winter : ℕ) (book list : List ℕ) (s : Sheet) : Type 0 where
   pub as_many : s.lines ≡ count_of list
   pub each : (k : ℕ) → k < count_of list → EventLine winter book list (notice_at list k) (s.code k) (s.place k) (s.energy k)
-  pub add_up : run_of s.energy 0 s.lines ≡ energy

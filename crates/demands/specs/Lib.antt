@@ -2,6 +2,5 @@ pub mod Faces
 pub mod Clocks
 pub mod Demand2
 pub mod Demand3
-pub mod OneCall
 pub mod PowerSheet
 pub mod PowerDemand

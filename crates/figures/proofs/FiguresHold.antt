@@ -29,20 +29,17 @@ use Rattle.event_hours.specs.Hours.{hours_mask}
 use Rattle.form.specs.Form.{top_of, rest_of, form_of, notices_said, reads_from, reads_said}
 use Rattle.form.specs.Lines.{event_line_at, head_at, read_line_at, lines_end, lines_said}
 use Rattle.form.specs.Places.{book_days, misplaced_by, misplaced_in, book_in}
-use Rattle.laws.specs.Above.{above_rows}
 use Rattle.laws.specs.Answer.{refuse}
 use Rattle.laws.specs.Below.{some_below}
 use Rattle.laws.specs.Rows.{rows_to}
 use Rattle.laws.specs.Table.{first_of}
+use Rattle.credit.specs.Lines.{line_at}
 use Rattle.laws.specs.Sums.{sum_to}
 use Rattle.money.specs.Cents.{cents_at}
 use Rattle.money.specs.Price.{bad_price}
-use Rattle.money.specs.Pricing.{cents_of, cents_written}
-use Rattle.money.specs.Refusals.{price_rows, cents_table, cents_refusal}
-use Rattle.settlement.specs.Energies.{answered_by, written_by, energies_of, energies_written}
 use Rattle.settlement.specs.Events.{event_at}
-use Rattle.settlement.specs.Lines.{line_at}
-use Rattle.settlement.specs.Refusals.{short_output, call_rows, energies_table, refusal_of}
+use Rattle.credit.specs.Refusals.{short_output, call_rows, settlement_table, refusal_of}
+use Rattle.credit.specs.Settlement.{settled_by, written_by, settlement, written}
 use Rattle.money.specs.Worth.{rounded_worth}
 use Rattle.notices.specs.Hours.{is_hour, touches, outside, no_hours, no_band, across_band, bad_length}
 use Rattle.notices.specs.Notices.{notice_at, hours_of}
@@ -55,7 +52,7 @@ use Rattle.power.specs.Credit.{credit_of}
 use Rattle.power.specs.Lines.{power_line_at}
 use Rattle.power.specs.Rates.{rate_of}
 use Rattle.power.specs.Reduced.{needed_of, spared_by, event_of, reduction_of, reduced_of, reduced_at}
-use Rattle.power.specs.Refusals.{short_room, wrong_references, power_call_rows, power_table, power_refusal}
+use Rattle.power.specs.Refusals.{short_room, wrong_references, power_call_rows, reference_rows, power_table, power_refusal}
 use Rattle.power.specs.Settlement.{power_settled_by, power_written_by, power_settlement, power_written}
 use Rattle.printing.specs.Sheet.{refused_lines, notice_line, statement_lines}
 use Rattle.schedule.specs.ListCheck.{day_rows, list_rows, notice_rows, after_notice, sofar_at, rows_at, bad_list, check_table, check_answer}
@@ -81,10 +78,9 @@ unfolding calendar_figures also_excluded also_from easter_sunday refuse no_easte
     in_period first_weekday weekday weekend energy_figures sample_day sample_book sample_list event_answer event_rows line_of asked_by warm_up hours_from needed places_on
     forward_day back_day sunday_from clocks_forward clocks_back has_hour elapsed warms_up those
     first_fault fault_of energy_of sum_over trimmed_at trimmed_of sum_of smallest_of largest_of spared_of above_limit trial_of reference_days before free_in has_each serves
-    masks_of masks_to with_hours marks_none hours_mask money_figures energies_of answered_by energies_written written_by refusal_of energies_table call_rows book_rows
-    bad_book bad_price short_output rows_to line_at cents_of cents_written cents_refusal cents_table price_rows above_rows cents_at sum_to event_at
-    rounded_worth power_figures power_settlement power_settled_by power_written power_written_by power_refusal power_table power_call_rows short_room wrong_references
-    power_line_at reduced_at reduced_of event_of spared_by
+    masks_of masks_to with_hours marks_none hours_mask money_figures settlement settled_by written written_by refusal_of settlement_table call_rows book_rows bad_book
+    bad_price short_output rows_to line_at cents_at sum_to event_at rounded_worth power_figures power_settlement power_settled_by
+    power_written power_written_by power_refusal power_table power_call_rows short_room wrong_references reference_rows power_line_at reduced_at reduced_of event_of spared_by
     needed_of run reduction_of credit_of rate_of text_figures bytes_in sample_input sample_output twice statement_of text_refusal text_table
     value_rows told_bytes settled_bytes form_of top_of rest_of notices_said reads_from reads_said keyed_at field_at field_from digits_from end_from is_digit word_at word_from
     row_at lines_end lines_said event_line_at head_at read_line_at flatten misplaced_in misplaced_by book_days book_in statement_lines refused_lines notice_line

@@ -1,6 +1,6 @@
-// The four calls of rule 9.1, on numbers and lent bytes. No more than the names.
+// The three calls of rule 9.1, on numbers and lent bytes. No more than the names.
 ghost use Rattle.std.specs.Prelude.{◌≡◌, length};
-ghost use Rattle.boundary.specs.Calls.{check_call, energies_call, energies_bytes, cents_call, cents_bytes};
+ghost use Rattle.boundary.specs.Calls.{check_call, settle_call, settle_bytes};
 ghost use Rattle.power_boundary.specs.PowerCalls.{power_call, power_bytes, total_bytes};
 
 // Whether a list of notices stands under a profile in a winter: 0, or number and place in one (rule 9.5).
@@ -11,22 +11,19 @@ pub extern "C" fn ibisladder_check(winter: u32, profile: u32, list: &[u8]) -> u3
     boundary::check_bytes(winter, profile, list)
 }
 
-// The energies of a winter into a lent output: 0, or number and place in one (rule 9.5).
+// Settles a winter into a lent output: 0, or number and place in one (rule 9.5).
 #[unsafe(no_mangle)]
-pub extern "C" fn ibisladder_energies(winter: u32, book: &[u8], list: &[u8], out: &mut [u8]) -> u32
-    ensures value { result ≡ energies_call winter book.now list.now (length out.old) }
-    ensures out_after { out.new ≡ energies_bytes winter book.now list.now out.old }
+pub extern "C" fn ibisladder_settle(
+    winter: u32,
+    book: &[u8],
+    price: u32,
+    list: &[u8],
+    out: &mut [u8],
+) -> u32
+    ensures value { result ≡ settle_call winter book.now price list.now (length out.old) }
+    ensures out_after { out.new ≡ settle_bytes winter book.now price list.now out.old }
 {
-    boundary::energies_bytes(winter, book, list, out)
-}
-
-// The cents of energies at one price into a lent output: 0, or number and place in one (rule 9.5).
-#[unsafe(no_mangle)]
-pub extern "C" fn ibisladder_cents(price: u32, energies: &[u8], out: &mut [u8]) -> u32
-    ensures value { result ≡ cents_call price energies.now (length out.old) }
-    ensures out_after { out.new ≡ cents_bytes price energies.now out.old }
-{
-    boundary::cents_bytes(price, energies, out)
+    boundary::settle_bytes(winter, book, price, list, out)
 }
 
 // Settles a winter of a medium-power site into a lent output and lent totals: 0, or number and place in one (rule 9.5).

@@ -16,10 +16,10 @@ module _ (f : ℕ → ℕ) where
   unfolding sum_to
   sum_next n = refl
 
-  pub sum_bound : (m n : ℕ) → ((k : ℕ) → k < n → f k ≤ m) → sum_to f n ≤ n * m
+  pub sum_bound : (m : ℕ) → ((k : ℕ) → f k ≤ m) → (n : ℕ) → sum_to f n ≤ n * m
   unfolding sum_to
-  sum_bound m zero h = omega arith
-  sum_bound m (suc n) h = rw (suc-mul n m) (omega (arith, sum_bound m n (λ k b. h k (omega arith)), h n (omega arith)))
+  sum_bound m h zero = omega arith
+  sum_bound m h (suc n) = rw (suc-mul n m) (omega (arith, sum_bound m h n, h n))
 
   -- sums only grow
   pub sum_grows : (j i : ℕ) → i ≤ j → sum_to f i ≤ sum_to f j

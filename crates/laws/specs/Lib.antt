@@ -4,4 +4,3 @@ pub mod Bounds
 pub mod Rows
 pub mod Sums
 pub mod Table
-pub mod Above

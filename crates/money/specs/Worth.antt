@@ -1,8 +1,9 @@
 -- What energy is worth.
 -- Assumes nothing.
-use Rattle.std.specs.Prelude.{ℕ, ◌*◌}
+use Rattle.std.specs.Prelude.{ℕ, ◌*◌, cond, ◌||◌, ltb}
 use Rattle.laws.specs.Bounds.{largest_energy}
 use Rattle.money.specs.Nearest.{nearest_whole}
+use Rattle.money.specs.Price.{bad_price}
 
 -- the parts of a cent in which worth is exact (rule 7.2)
 abbrev pub cent_parts : ℕ
@@ -16,9 +17,10 @@ exact_worth p e = e * p
 unfoldable pub rounded_worth : ℕ → ℕ → ℕ
 rounded_worth p e = nearest_whole (exact_worth p e) cent_parts
 
--- rule 7.9: so many energies are priced at most, each no larger than the largest, and so much energy they have together
-abbrev pub most_energies : ℕ
-most_energies = 100
-
+-- the most energy that is priced at once: that of a hundred events (rule 7.9)
 abbrev pub most_energy : ℕ
-most_energy = most_energies * largest_energy
+most_energy = 100 * largest_energy
+
+-- what the call answers: 0 at a price that is refused, and for more energy than a winter can have (rule 7.9)
+unfoldable pub worth_of : ℕ → ℕ → ℕ
+worth_of p e = cond (bad_price p || ltb most_energy e) 0 (rounded_worth p e)

@@ -15,7 +15,7 @@ use Rattle.power.specs.Refusals.{power_table, power_refusal}
 use Rattle.power.specs.Settlement.{power_settlement, power_written}
 use Rattle.power.specs.declared.call.PowerSettlement.{PowerSettlement}
 use Rattle.power.proofs.RefusalLaws.{PowerSettles, table_numbered, unrefused_settles, settles_unrefused}
-use Rattle.power.proofs.SettlementLaws.{number_is, settled_accepted, settled_by, written_by_lem}
+use Rattle.power.proofs.SettlementLaws.{number_is, settled_accepted, settled_by_lem, written_by_lem}
 
 module _ (w : ℕ) (book l references : List ℕ) (room totals : ℕ) where
   abbrev refusal : Answer
@@ -40,7 +40,7 @@ module _ (w : ℕ) (book l references : List ℕ) (room totals : ℕ) where
     where
       by : (b : Bool) → is_refusal refusal ≡ b → Tells table settled.number settled.place
       by true q =
-          rw (settled_by w book l references room totals q)
+          rw (settled_by_lem w book l references room totals q)
           (table_tells table (table_numbered w (length book) l references room totals) refusal refl)
       by false q =
           rw (settled_accepted w book l references room totals q)
@@ -67,4 +67,4 @@ module _ (w : ℕ) (book l references out : List ℕ) (totals : ℕ)
   pub refused_totals : ((power_settlement w book l references (length out) totals).sum ≡ 0)
       × ((power_settlement w book l references (length out) totals).settled ≡ 0)
       × ((power_settlement w book l references (length out) totals).cents ≡ 0)
-  refused_totals = rw (settled_by w book l references (length out) totals is_refusal_lem) (refl, refl, refl)
+  refused_totals = rw (settled_by_lem w book l references (length out) totals is_refusal_lem) (refl, refl, refl)

@@ -7,5 +7,6 @@ pub mod Exact
 pub mod HourShares
 pub mod LineLaws
 pub mod RateLaws
+pub mod ReferenceLaws
 pub mod RefusalLaws
 pub mod SettlementLaws

@@ -1,7 +1,7 @@
 -- Laws of the refusals: which part of the table decides, what is known of a settlement that is not refused, and the other way round; bounds of
 -- what is refused.
 -- Assumes nothing.
-use Prim.Native.Nat.{ℕ, ◌*◌, ◌≤◌}
+use Prim.Native.Nat.{ℕ, ◌*◌, ◌≤◌, ◌<◌}
 use mathlib.Core.Bool.{true, false}
 use mathlib.Core.List.{List, ◌++◌}
 use mathlib.Core.Path.{◌≡◌, sym, ap, ◌∙◌}
@@ -12,8 +12,6 @@ use Rattle.book.specs.Length.{book_length}
 use Rattle.calendar.specs.WinterOf.{winter_of}
 use Rattle.dates.proofs.Promise.{winter_range}
 use Rattle.dates.specs.Winters.{days}
-use Rattle.laws.proofs.Above.{AllLow, none_low, low_none}
-use Rattle.laws.proofs.Above as above
 use Rattle.laws.proofs.Every.{left, right, joined}
 use Rattle.laws.proofs.Tables.{Numbered, NoneBroken, unrefused_none, none_accepted, part_stops, part_goes, told_stops, Bounded, bounded_parts}
 use Rattle.laws.specs.Answer.{Answer}
@@ -27,8 +25,9 @@ use Rattle.schedule.proofs.RuleLaws.{checked_notices}
 use Rattle.schedule.proofs.Walk.{notices_numbered}
 use Rattle.schedule.specs.ListCheck.{notices_table, checked_in}
 use Rattle.power.specs.Lines.{power_line_numbers}
-use Rattle.power.specs.Refusals.{total_numbers, largest_reference, short_room, power_call_rows, references_table, power_table, power_refusal}
+use Rattle.power.specs.Refusals.{total_numbers, short_room, power_call_rows, references_table, power_table, power_refusal}
 use Rattle.power.proofs.CallLaws.{RightPower, call_numbered, call_none_right, call_right_none, rows_bounded}
+use Rattle.power.proofs.ReferenceLaws.{AllLow, references_numbered, none_low, low_none, references_bounded}
 
 -- all that a settlement asks: the call's own rules, low references, and rule 10.3's list
 pub record PowerSettles (w readings : ℕ) (l references : List ℕ) (room totals : ℕ) : Type 0 where
@@ -37,7 +36,7 @@ pub record PowerSettles (w readings : ℕ) (l references : List ℕ) (room total
   pub room_enough : power_line_numbers * count_of l ≤ room
   pub totals_for : total_numbers ≤ totals
   pub as_many : length references ≡ count_of l
-  pub low : AllLow largest_reference references
+  pub low : AllLow references
 
 module _ (w readings : ℕ) (l references : List ℕ) (room totals : ℕ) where
   abbrev call : List Row
@@ -49,14 +48,11 @@ module _ (w readings : ℕ) (l references : List ℕ) (room totals : ℕ) where
   abbrev notices : List Row
   notices = notices_table (winter_of w) (figures_of PowerOption) l
 
-  references_numbered : Numbered references_part
-  references_numbered = above.table_numbered 41 largest_reference references (omega arith)
-
   pub table_numbered : Numbered (power_table w readings l references room totals)
   unfolding power_table
   table_numbered =
       joined (λ (r : Row). 1 ≤ r.number) call (references_part ++ notices) (call_numbered w readings (length l) room totals (length references))
-      (joined (λ (r : Row). 1 ≤ r.number) references_part notices references_numbered (notices_numbered (winter_of w) (figures_of PowerOption) l))
+      (joined (λ (r : Row). 1 ≤ r.number) references_part notices (references_numbered references) (notices_numbered (winter_of w) (figures_of PowerOption) l))
 
   -- which part decides: the call's own rows, else the references, else the notices
   module _ (number : ℕ) (e : refusal_at number 0 ≡ first_of call) where
@@ -81,7 +77,7 @@ module _ (w readings : ℕ) (l references : List ℕ) (room totals : ℕ) where
         unfolding power_refusal power_table
         by_notices t =
             checked_notices w PowerOption l (whole_test (length l) call_is_right.whole call_is_right.few)
-            ∙ part_goes references_part notices (unrefused_none references_part references_numbered (ap is_refusal (sym told) ∙ t))
+            ∙ part_goes references_part notices (unrefused_none references_part (references_numbered references) (ap is_refusal (sym told) ∙ t))
             ∙ part_goes call (references_part ++ notices) own_none
 
   -- a settlement that is not refused, and the other way round
@@ -99,7 +95,7 @@ module _ (w readings : ℕ) (l references : List ℕ) (room totals : ℕ) where
         room_enough = own.room_enough;
         totals_for = own.totals_for;
         as_many = own.as_many;
-        low = none_low 41 largest_reference references (left (λ (r : Row). r.broken ≡ false) references_part notices rest);
+        low = none_low references (left (λ (r : Row). r.broken ≡ false) references_part notices rest);
       }
 
   pub settles_unrefused : PowerSettles w readings l references room totals → is_refusal (power_refusal w readings l references room totals) ≡ false
@@ -119,8 +115,7 @@ module _ (w readings : ℕ) (l references : List ℕ) (room totals : ℕ) where
       (none_accepted (call ++ (references_part ++ notices))
       (joined (λ (r : Row). r.broken ≡ false) call (references_part ++ notices)
       (call_right_none w readings (length l) room totals (length references) own)
-      (joined (λ (r : Row). r.broken ≡ false) references_part notices (low_none 41 largest_reference references s.low)
-      (lawful_notices w (figures_of PowerOption) l r))))
+      (joined (λ (r : Row). r.broken ≡ false) references_part notices (low_none references s.low) (lawful_notices w (figures_of PowerOption) l r))))
 
   -- numbers and places are bounded
   pub refusal_bounded : Bounded (power_refusal w readings l references room totals)
@@ -128,7 +123,7 @@ module _ (w readings : ℕ) (l references : List ℕ) (room totals : ℕ) where
   refusal_bounded =
       bounded_parts call (references_part ++ notices) (rows_bounded w readings (length l) room totals (length references))
       (λ none. let s = call_none_right w readings (length l) room totals (length references) none in
-      bounded_parts references_part notices (above.table_bounded 41 largest_reference references (omega arith) (omega (arith, s.few, s.as_many)))
+      bounded_parts references_part notices (references_bounded references (omega (arith, s.few, s.as_many)))
       (λ low. notices_bounded w (figures_of PowerOption) l (whole_test (length l) s.whole s.few)))
 
 -- of the rooms only that they are large enough counts

@@ -69,9 +69,9 @@ module _ (w : ℕ) (book l references : List ℕ) (room totals : ℕ) where
   abbrev refusal : Answer
   refusal = power_refusal w (length book) l references room totals
 
-  pub settled_by : is_refusal refusal ≡ true → power_settlement w book l references room totals ≡ power_refused_with refusal.number (get_or refusal.values 0 0)
+  pub settled_by_lem : is_refusal refusal ≡ true → power_settlement w book l references room totals ≡ power_refused_with refusal.number (get_or refusal.values 0 0)
   unfolding power_settlement power_settled_by
-  settled_by e = rw e
+  settled_by_lem e = rw e
 
   pub settled_accepted : is_refusal refusal ≡ false → power_settlement w book l references room totals ≡ power_totals_of (reduced_at book l references) (count_of l)
   unfolding power_settlement power_settled_by
@@ -83,7 +83,7 @@ module _ (w : ℕ) (book l references : List ℕ) (room totals : ℕ) where
     where
       by : (b : Bool) → is_refusal refusal ≡ b → is_refusal refusal ≡ false
       by true q =
-          let z : refusal.number ≡ 0 = ap (λ (s : PowerSettlement). s.number) (sym (settled_by q)) ∙ e in
+          let z : refusal.number ≡ 0 = ap (λ (s : PowerSettlement). s.number) (sym (settled_by_lem q)) ∙ e in
           absurd (true≢false (sym q ∙ rw z refl))
       by false q = q
 
@@ -94,7 +94,7 @@ module _ (w : ℕ) (book l references : List ℕ) (room totals : ℕ) where
     where
       by : (b : Bool) → is_refusal refusal ≡ b
           → ((power_settlement w book l references room totals).number ≤ largest_number) × ((power_settlement w book l references room totals).place ≤ largest_place)
-      by true q = rw (settled_by q) (refusal_bounded w (length book) l references room totals)
+      by true q = rw (settled_by_lem q) (refusal_bounded w (length book) l references room totals)
       by false q = rw (settled_accepted q) (omega arith, omega arith)
 
   -- a refusal that is told by number and place
@@ -103,7 +103,7 @@ module _ (w : ℕ) (book l references : List ℕ) (room totals : ℕ) where
     told_refused f = rw (← e, ne_eqb number 0 f)
 
     pub told_settled : (number ≡ 0 → ⊥) → power_refused_with number place ≡ power_settlement w book l references room totals
-    told_settled f = sym (settled_by (told_refused f) ∙ rw (← e) refl)
+    told_settled f = sym (settled_by_lem (told_refused f) ∙ rw (← e) refl)
 
     pub told_accepted : number ≡ 0 → is_refusal refusal ≡ false
     told_accepted z = rw (← e, z)

@@ -69,12 +69,15 @@ fn references_refusal(references: &[u32]) -> Refusal
     requires { length references.now ≤ most_notices }
     ensures { refusal_at result.number result.place ≡ first_of (references_table references.now) }
 {
-    let k = laws::first_above(LARGEST_REFERENCE, references);
-    if k < references.len() {
-        return Refusal {
-            number: 41,
-            place: k as u32,
-        };
+    let mut k: usize = 0;
+    while k < references.len() {
+        if LARGEST_REFERENCE < references[k] {
+            return Refusal {
+                number: 41,
+                place: k as u32,
+            };
+        }
+        k += 1;
     }
     Refusal {
         number: 0,

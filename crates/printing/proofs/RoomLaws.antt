@@ -1,7 +1,7 @@
 -- Laws of the room: what an output has where the notices can be printed, and that bytes put at its front are then what printing leaves.
 -- Assumes nothing.
 use Prim.Native.Nat.{ℕ, ◌+◌, ◌*◌, ◌/◌, ◌≤◌, ◌<◌}
-use mathlib.Core.Bool.{Bool, true, false, ◌||◌}
+use mathlib.Core.Bool.{Bool, true, false}
 use mathlib.Core.List.{List, ◌++◌}
 use mathlib.Core.Path.{◌≡◌, refl, ◌∙◌}
 use native.Mathlib.Omega.{arith}
@@ -11,19 +11,16 @@ use lib.Seq.{sets-eq}
 use borrow.Author.Tests.{le-ltb, lt-leb, ltb-false, leb-false}
 use Rattle.laws.proofs.Guards.{neither}
 use Rattle.numerals.specs.Put.{Put}
-use Rattle.settlement.specs.Lines.{line_numbers}
-use Rattle.printing.specs.Room.{line_room, cannot_print, printed, printed_count}
+use Rattle.printing.specs.Room.{cannot_print, printed, printed_count}
 
--- three numbers and the cents of each notice, and a line's room for each and for the rest
-pub has_room : (notices numbers cents room : ℕ) → cannot_print notices numbers cents room ≡ false
-    → (line_numbers * notices ≤ numbers) × (notices ≤ cents) × (line_room * notices + line_room ≤ room)
+-- four numbers a notice, and a line's room for each and for the rest
+pub has_room : (notices numbers room : ℕ) → cannot_print notices numbers room ≡ false → (4 * notices ≤ numbers) × (152 * notices + 152 ≤ room)
 unfolding cannot_print
-has_room notices numbers cents room e =
-    let t = neither (ltb (numbers / line_numbers) notices || ltb cents notices) (leb (room / line_room) notices) e in
-    let held = neither (ltb (numbers / line_numbers) notices) (ltb cents notices) t.0 in
-    let n : notices ≤ numbers / line_numbers = ltb-false _ _ held.0 in
-    let r : notices < room / line_room = leb-false _ _ t.1 in
-    (omega arith, ltb-false _ _ held.1, omega arith)
+has_room notices numbers room e =
+    let t = neither (ltb (numbers / 4) notices) (leb (room / 152) notices) e in
+    let n : notices ≤ numbers / 4 = ltb-false _ _ t.0 in
+    let r : notices < room / 152 = leb-false _ _ t.1 in
+    (omega arith, omega arith)
 
 pub printed_nothing : (bytes out : List ℕ) {cannot : Bool} → cannot ≡ true → (0 ≡ printed_count cannot bytes) × (out ≡ printed cannot bytes out)
 unfolding printed printed_count
@@ -38,11 +35,10 @@ printed_front {out = out} {bytes = bytes} {next = next} e a h =
     rw e (n, a.holds ∙ sets-eq bytes out 0 (omega arith) ∙ rw z)
 
 -- and the other way: with that room all is printed
-pub can_print : (notices numbers cents room : ℕ) → line_numbers * notices ≤ numbers → notices ≤ cents → line_room * notices + line_room ≤ room
-    → cannot_print notices numbers cents room ≡ false
+pub can_print : (notices numbers room : ℕ) → 4 * notices ≤ numbers → 152 * notices + 152 ≤ room → cannot_print notices numbers room ≡ false
 unfolding cannot_print
-can_print notices numbers cents room n c r =
-    rw (le-ltb (numbers / line_numbers) notices (omega arith), le-ltb cents notices c, lt-leb (room / line_room) notices (omega arith))
+can_print notices numbers room n r =
+    rw (le-ltb (numbers / 4) notices (omega arith), lt-leb (room / 152) notices (omega arith))
 
 pub all_printed : (bytes out : List ℕ) {cannot : Bool} → cannot ≡ false
     → (printed_count cannot bytes ≡ length bytes) × (printed cannot bytes out ≡ bytes ++ drop (length bytes) out)

@@ -22,19 +22,6 @@ pub shown : (bytes out : List ℕ) {cannot : Bool} → cannot ≡ false → take
 unfolding printed printed_count
 shown bytes out e = rw e (take_at bytes (drop (length bytes) out) (length bytes) refl)
 
--- what the line of a notice and the lines of a statement are
-pub notice_line_is : (l lines cents : List ℕ) (k : ℕ) → notice_line l lines cents k ≡ line "line=" (numbers_at l lines cents k)
-unfolding notice_line
-notice_line_is l lines cents k = refl
-
-pub statement_lines_are : (w p : ℕ) (l lines cents : List ℕ) (energy total : ℕ) → statement_lines w p l lines cents energy total
-    ≡ line "winter=" (w ∷ [])
-    ∷ line "price=" (p ∷ [])
-    ∷ line "events=" (count_of l ∷ [])
-    ∷ (notice_lines l lines cents (count_of l) ++ (line "energy=" (energy ∷ []) ∷ line "total=" (total ∷ []) ∷ []))
-unfolding statement_lines
-statement_lines_are w p l lines cents energy total = refl
-
 -- a refused text
 pub refused_numbers : (number place : ℕ) → numbers_in (refused_bytes number place) ≡ number ∷ place ∷ []
 unfolding refused_lines
@@ -47,101 +34,92 @@ refused_same n m p q e =
     (cc, cc)
 
 -- the numbers of a statement: winter, price and number of notices, seven numbers a notice, total energy and total cents
-abbrev pub shown_numbers : ℕ → ℕ → List ℕ → List ℕ → List ℕ → ℕ → ℕ → List ℕ
-shown_numbers w p l lines cents energy total = w ∷ p ∷ count_of l ∷ (numbers_of_lines (notice_lines l lines cents (count_of l)) ++ (energy ∷ total ∷ []))
+abbrev pub shown_numbers : ℕ → ℕ → List ℕ → List ℕ → ℕ → ℕ → List ℕ
+shown_numbers w p l out energy cents = w ∷ p ∷ count_of l ∷ (numbers_of_lines (notice_lines l out (count_of l)) ++ (energy ∷ cents ∷ []))
 
-module _ (l lines cents : List ℕ) where
+module _ (l out : List ℕ) where
   abbrev line_row : ℕ → List Line
-  line_row k = notice_line l lines cents k ∷ []
+  line_row k = notice_line l out k ∷ []
 
   abbrev number_row : ℕ → List ℕ
-  number_row k = numbers_of (notice_line l lines cents k)
+  number_row k = numbers_of (notice_line l out k)
 
-  lines_plain : (k : ℕ) → Every Plain (notice_lines l lines cents k)
+  lines_plain : (k : ℕ) → Every Plain (notice_lines l out k)
   unfolding notice_line
-  lines_plain n = all_rows Plain line_row n (λ k h. (plain_line "line=" (numbers_at l lines cents k) refl, tt))
+  lines_plain n = all_rows Plain line_row n (λ k h. (plain_line "line=" (numbers_at l out k) refl, tt))
 
   -- the numbers of the lines are rows of seven
-  sevens : (k : ℕ) → numbers_of_lines (notice_lines l lines cents k) ≡ rows_to number_row k
+  sevens : (k : ℕ) → numbers_of_lines (notice_lines l out k) ≡ rows_to number_row k
   sevens zero = rw (rows_none line_row, rows_none number_row) numbers_none
   sevens (suc k) =
-      rw (
-        rows_more line_row k,
-        rows_more number_row k,
-        numbers_append (notice_lines l lines cents k) (line_row k),
-        numbers_one (notice_line l lines cents k),
-        sevens k,
-      )
+      rw (rows_more line_row k, rows_more number_row k, numbers_append (notice_lines l out k) (line_row k), numbers_one (notice_line l out k), sevens k)
 
   seven_wide : Wide 7 number_row
   unfolding notice_line
   seven_wide = record { long = λ k. refl }
 
-  sevens_long : (k : ℕ) → length (numbers_of_lines (notice_lines l lines cents k)) ≡ 7 * k
+  sevens_long : (k : ℕ) → length (numbers_of_lines (notice_lines l out k)) ≡ 7 * k
   sevens_long k = ap length (sevens k) ∙ rows_long seven_wide k
 
-module _ (w p : ℕ) (l lines cents : List ℕ) (energy total : ℕ) where
-  statement_plain : Every Plain (statement_lines w p l lines cents energy total)
+module _ (w p : ℕ) (l out : List ℕ) (energy cents : ℕ) where
+  statement_plain : Every Plain (statement_lines w p l out energy cents)
   unfolding statement_lines
   statement_plain =
       let energy_line = plain_line "energy=" (energy ∷ []) refl in
-      let total_line = plain_line "total=" (total ∷ []) refl in
-      let totals = line "energy=" (energy ∷ []) ∷ line "total=" (total ∷ []) ∷ [] in
-      let body = joined Plain (notice_lines l lines cents (count_of l)) totals (lines_plain l lines cents (count_of l)) (energy_line, (total_line, tt)) in
+      let total_line = plain_line "total=" (cents ∷ []) refl in
+      let totals = line "energy=" (energy ∷ []) ∷ line "total=" (cents ∷ []) ∷ [] in
+      let body = joined Plain (notice_lines l out (count_of l)) totals (lines_plain l out (count_of l)) (energy_line, (total_line, tt)) in
       (plain_line "winter=" (w ∷ []) refl, (plain_line "price=" (p ∷ []) refl, (plain_line "events=" (count_of l ∷ []) refl, body)))
 
-  pub statement_numbers : numbers_in (statement_bytes w p l lines cents energy total) ≡ shown_numbers w p l lines cents energy total
+  pub statement_numbers : numbers_in (statement_bytes w p l out energy cents) ≡ shown_numbers w p l out energy cents
   unfolding statement_lines
   statement_numbers =
-      read_back (statement_lines w p l lines cents energy total) statement_plain ∙ simp (numbers_one, numbers_more, numbers_append, number_back_lem)
+      read_back (statement_lines w p l out energy cents) statement_plain ∙ simp (numbers_one, numbers_more, numbers_append, number_back_lem)
 
 -- what stands at an index of these numbers: number j of line k, and behind the lines the totals
-module _ (w p : ℕ) (l lines cents : List ℕ) (energy total : ℕ) where
+module _ (w p : ℕ) (l out : List ℕ) (energy cents : ℕ) where
   abbrev shows : ℕ → ℕ
-  shows i = get_or (shown_numbers w p l lines cents energy total) i 0
+  shows i = get_or (shown_numbers w p l out energy cents) i 0
 
   abbrev of_lines : List ℕ
-  of_lines = numbers_of_lines (notice_lines l lines cents (count_of l))
+  of_lines = numbers_of_lines (notice_lines l out (count_of l))
 
-  behind_head : (i : ℕ) → shows (3 + i) ≡ get_or (of_lines ++ (energy ∷ total ∷ [])) i 0
-  behind_head i = get_or-append-add (w ∷ p ∷ count_of l ∷ []) (of_lines ++ (energy ∷ total ∷ [])) i 0
+  behind_head : (i : ℕ) → shows (3 + i) ≡ get_or (of_lines ++ (energy ∷ cents ∷ [])) i 0
+  behind_head i = get_or-append-add (w ∷ p ∷ count_of l ∷ []) (of_lines ++ (energy ∷ cents ∷ [])) i 0
 
-  pub shown_line : (k j : ℕ) → k < count_of l → j < 7 → shows (3 + (7 * k + j)) ≡ get_or (numbers_at l lines cents k) j 0
+  pub shown_line : (k j : ℕ) → k < count_of l → j < 7 → shows (3 + (7 * k + j)) ≡ get_or (numbers_at l out k) j 0
   unfolding notice_line
   shown_line k j h b =
       behind_head (7 * k + j)
-      ∙ rw (sevens l lines cents (count_of l)) (row_in (seven_wide l lines cents) (energy ∷ total ∷ []) (count_of l) k j h b)
-      ∙ ap (λ (ns : List ℕ). get_or ns j 0) (numbers_back (numbers_at l lines cents k))
+      ∙ rw (sevens l out (count_of l)) (row_in (seven_wide l out) (energy ∷ cents ∷ []) (count_of l) k j h b)
+      ∙ ap (λ (ns : List ℕ). get_or ns j 0) (numbers_back (numbers_at l out k))
 
-  pub shown_total_lem : (j : ℕ) → shows (3 + (7 * count_of l + j)) ≡ get_or (energy ∷ total ∷ []) j 0
+  pub shown_total_lem : (j : ℕ) → shows (3 + (7 * count_of l + j)) ≡ get_or (energy ∷ cents ∷ []) j 0
   shown_total_lem j =
       behind_head (7 * count_of l + j)
-      ∙ rw (← sevens_long l lines cents (count_of l)) (get_or-append-add of_lines (energy ∷ total ∷ []) j 0)
+      ∙ rw (← sevens_long l out (count_of l)) (get_or-append-add of_lines (energy ∷ cents ∷ []) j 0)
 
-module _ (l l' lines lines' cents cents' : List ℕ) where
+module _ (l l' out out' : List ℕ) where
   -- equal numbers of n notices are equal notice by notice
-  sevens_same : (n k : ℕ) → k < n → numbers_of_lines (notice_lines l lines cents n) ≡ numbers_of_lines (notice_lines l' lines' cents' n)
-      → numbers_of (notice_line l lines cents k) ≡ numbers_of (notice_line l' lines' cents' k)
-  sevens_same n k h e =
-      rows_same (seven_wide l lines cents) (seven_wide l' lines' cents') n k h (sym (sevens l lines cents n) ∙ e ∙ sevens l' lines' cents' n)
+  sevens_same : (n k : ℕ) → k < n → numbers_of_lines (notice_lines l out n) ≡ numbers_of_lines (notice_lines l' out' n)
+      → numbers_of (notice_line l out k) ≡ numbers_of (notice_line l' out' k)
+  sevens_same n k h e = rows_same (seven_wide l out) (seven_wide l' out') n k h (sym (sevens l out n) ∙ e ∙ sevens l' out' n)
 
   -- equal statements: winter, price and totals are equal, and there are as many notices, with the same seven numbers each
-  pub statement_same : (w w' p p' energy energy' total total' : ℕ)
-      → statement_bytes w p l lines cents energy total ≡ statement_bytes w' p' l' lines' cents' energy' total'
+  pub statement_same : (w w' p p' energy energy' cents cents' : ℕ) → statement_bytes w p l out energy cents ≡ statement_bytes w' p' l' out' energy' cents'
       → (w ≡ w')
       × (p ≡ p')
       × (count_of l ≡ count_of l')
-      × ((k : ℕ) → k < count_of l → numbers_of (notice_line l lines cents k) ≡ numbers_of (notice_line l' lines' cents' k))
+      × ((k : ℕ) → k < count_of l → numbers_of (notice_line l out k) ≡ numbers_of (notice_line l' out' k))
       × (energy ≡ energy')
-      × (total ≡ total')
-  statement_same w w' p p' energy energy' total total' e =
-      let s : shown_numbers w p l lines cents energy total ≡ shown_numbers w' p' l' lines' cents' energy' total'
-      = sym (statement_numbers w p l lines cents energy total) ∙ ap numbers_in e ∙ statement_numbers w' p' l' lines' cents' energy' total' in
-      let xs = numbers_of_lines (notice_lines l lines cents (count_of l)) in
-      let ys = numbers_of_lines (notice_lines l' lines' cents' (count_of l')) in
+      × (cents ≡ cents')
+  statement_same w w' p p' energy energy' cents cents' e =
+      let s : shown_numbers w p l out energy cents ≡ shown_numbers w' p' l' out' energy' cents'
+      = sym (statement_numbers w p l out energy cents) ∙ ap numbers_in e ∙ statement_numbers w' p' l' out' energy' cents' in
+      let xs = numbers_of_lines (notice_lines l out (count_of l)) in
+      let ys = numbers_of_lines (notice_lines l' out' (count_of l')) in
       let n : count_of l ≡ count_of l' = cc in
-      let long : length xs ≡ length ys
-      = sevens_long l lines cents (count_of l) ∙ ap (λ (k : ℕ). 7 * k) n ∙ sym (sevens_long l' lines' cents' (count_of l')) in
-      let q = parts_same xs (energy ∷ total ∷ []) ys (energy' ∷ total' ∷ []) long (cc) in
+      let long : length xs ≡ length ys = sevens_long l out (count_of l) ∙ ap (λ (k : ℕ). 7 * k) n ∙ sym (sevens_long l' out' (count_of l')) in
+      let q = parts_same xs (energy ∷ cents ∷ []) ys (energy' ∷ cents' ∷ []) long (cc) in
       let t = q.1 in
-      (cc, cc, n, λ k h. sevens_same (count_of l) k h (q.0 ∙ ap (λ (m : ℕ). numbers_of_lines (notice_lines l' lines' cents' m)) (sym n)), cc, cc)
+      (cc, cc, n, λ k h. sevens_same (count_of l) k h (q.0 ∙ ap (λ (m : ℕ). numbers_of_lines (notice_lines l' out' m)) (sym n)), cc, cc)

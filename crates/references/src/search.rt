@@ -43,24 +43,17 @@ fn free_day_serves(w: Winter, event: Kind, lacking: u32, d: u32) -> bool
     }
 }
 
-// Past the days right before a day that carry an event. They serve no event, and before a late one there are many, so that it goes over two
-// at a time.
+// Past the days right before a day that carry an event. They serve no event, and before a late one there are many.
 fn past_events(masks: &[u32; 152], day: u32) -> u32
     requires { day < 152 }
     ensures { result ≡ past_events (free_in masks.now) day }
 {
     let mut d = day;
-    while 1 < d {
+    while 0 < d {
         if masks[(d - 1) as usize] == 0 {
             return d;
         }
-        if masks[(d - 2) as usize] == 0 {
-            return d - 1;
-        }
-        d -= 2;
-    }
-    if masks[0] == 0 {
-        return d;
+        d -= 1;
     }
     0
 }

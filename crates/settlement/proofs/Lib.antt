@@ -1,9 +1,1 @@
-pub mod CallGuards
-pub mod CallLaws
-pub mod Demands
-pub mod EnergiesLaws
 pub mod EventLaws
-pub mod Exact
-pub mod LineLaws
-pub mod RefusalLaws
-pub mod WayLaws

@@ -32,7 +32,7 @@ fn event_of(line: Line) -> Event
 
 // The event that the notice at index k is, its start and length taken from its day's bits. Where winter, book, masks, list and index make no
 // event it says nothing.
-pub(crate) fn event_at(w: Winter, book: &[u32], masks: &[u32; 152], list: &[u32], k: usize) -> Event
+pub fn event_at(w: Winter, book: &[u32], masks: &[u32; 152], list: &[u32], k: usize) -> Event
     ensures { result ≡ event_in w book.now masks.now list.now k }
 {
     let n = event_hours::event_on(masks, notices::notice_at(list, k));

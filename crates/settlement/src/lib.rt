@@ -1,9 +1,4 @@
-// The energies of a winter: a code, a place and a spared energy for each notice, three numbers a line.
-mod call;
+// The settlement of a winter's notices: a code, a place and a spared energy each.
 mod events;
-mod lines;
-mod refusals;
 
-pub use call::{Spared, energies};
-pub use lines::{LINE_NUMBERS, MOST_LINE_NUMBERS};
-pub use refusals::call_refusal;
+pub use events::event_at;

@@ -1,7 +1,6 @@
--- A text is accepted exactly when no row of the table is broken, and then the two calls on its values are.
+-- A text is accepted exactly when no row of the table is broken, and then the settlement of its values is.
 -- Assumes nothing.
 use Prim.Native.Nat.{ℕ}
-use mathlib.Core.Bool.{false}
 use mathlib.Core.List.{List}
 use mathlib.Core.Logic.{◌↔◌}
 use mathlib.Core.Path.{◌≡◌, ◌∙◌}
@@ -10,18 +9,18 @@ use lib.ListN.{length-replicate}
 use Rattle.book.specs.Length.{book_length}
 use Rattle.book.specs.Values.{missing_mark}
 use Rattle.calendar.specs.WinterOf.{winter_of}
+use Rattle.credit.proofs.Exact.{accepted_iff_settles}
+use Rattle.credit.specs.Settlement.{settlement}
 use Rattle.dates.specs.Winters.{days}
 use Rattle.form.proofs.PlaceLaws.{book_long}
 use Rattle.form.specs.Form.{notices_said, reads_said}
-use Rattle.laws.proofs.Tables.{Numbered, NoneBroken, accepted_none, none_accepted, unrefused_accepted}
-use Rattle.laws.specs.Table.{accepted, is_refusal}
-use Rattle.money.proofs.PriceLaws.{RightPrice, right_price}
+use Rattle.laws.proofs.Tables.{Numbered, NoneBroken, accepted_none, none_accepted}
+use Rattle.laws.specs.Table.{accepted}
+use Rattle.money.proofs.PriceLaws.{right_price}
 use Rattle.notices.specs.Profiles.{figures_of}
 use Rattle.notices.specs.declared.profiles.Profile.TheVariants.{Credit}
 use Rattle.schedule.proofs.Accepted.{notices_lawful}
 use Rattle.schedule.proofs.Walk.{notices_numbered}
-use Rattle.settlement.proofs.Exact.{accepted_iff_settles}
-use Rattle.settlement.specs.Energies.{energies_of}
 use Rattle.text.specs.Refusals.{value_rows, text_table, text_refusal}
 use Rattle.text.specs.Statement.{room_for}
 use Rattle.text.specs.Values.{winter_said, price_said, misplaced_said, no_readings, book_said}
@@ -40,23 +39,18 @@ module _ (s : List ℕ) where
   unfolding text_refusal
   accepted_iff_none = (accepted_none (text_table s) numbered, none_accepted (text_table s))
 
-  pub unrefused_accepts : is_refusal (text_refusal s) ≡ false → text_refusal s ≡ accepted
-  unfolding text_refusal
-  unrefused_accepts e = unrefused_accepted (text_table s) numbered e
-
-  -- AND AN ACCEPTED TEXT IS SETTLED: its price is right, and nothing refuses the energies of its values
-  pub accepted_price : text_refusal s ≡ accepted → RightPrice (price_said s)
-  unfolding text_table value_rows
-  accepted_price ok = right_price (price_said s) (accepted_iff_none.0 ok).1.1.1.1.0
-
-  pub accepted_settles : text_refusal s ≡ accepted → (energies_of (winter_said s) (book_said s) (notices_said s) (room_for (notices_said s))).number ≡ 0
+  -- AND AN ACCEPTED TEXT IS SETTLED: nothing refuses the settlement of its values
+  pub accepted_settles : text_refusal s ≡ accepted
+      → (settlement (winter_said s) (book_said s) (price_said s) (notices_said s) (room_for (notices_said s))).number ≡ 0
   unfolding text_table value_rows
   accepted_settles ok =
       let values = (accepted_iff_none.0 ok).1.1 in
-      let priced = values.1.1.1 in
-      (accepted_iff_settles (winter_said s) (book_said s) (notices_said s) (room_for (notices_said s))).1
+      let placed = values.1.1 in
+      let priced = placed.1 in
+      (accepted_iff_settles (winter_said s) (price_said s) (book_said s) (notices_said s) (room_for (notices_said s))).1
       (record {
         book = book_long (reads_said s) (no_readings (winter_said s)) ∙ length-replicate (book_length (days (winter_said s))) missing_mark;
+        price = right_price (price_said s) placed.0;
         list = notices_lawful (winter_said s) (figures_of Credit) (notices_said s) values.0 priced.0 priced.1;
         room_enough = omega arith;
       })

@@ -1,10 +1,8 @@
 pub mod FirstRefusal
 pub mod HeldValues
 pub mod PrintLaws
-pub mod SettledLaws
 pub mod Stands
 pub mod StatementLaws
 pub mod Statements
 pub mod Told
-pub mod TwoCalls
 pub mod ValueLaws

@@ -19,15 +19,11 @@ use Rattle.form.specs.Places.{book_in}
 use Rattle.laws.proofs.Stores.{take_replicate}
 use Rattle.laws.specs.Answer.{Answer}
 use Rattle.laws.specs.Table.{is_refusal}
-use Rattle.money.specs.Pricing.{cents_of, cents_written}
-use Rattle.money.specs.declared.pricing.Priced.{Priced}
-use Rattle.notices.specs.Notices.{notice_numbers, most_notices, longest_list, count_of}
+use Rattle.notices.specs.Notices.{notice_numbers, most_notices, longest_list}
 use Rattle.printing.proofs.RoomLaws.{can_print, all_printed}
 use Rattle.printing.specs.Room.{cannot_print, printed, printed_count}
-use Rattle.printing.specs.Sheet.{refused_bytes, statement_bytes}
-use Rattle.settlement.specs.Lines.{line_numbers}
-use Rattle.settlement.specs.Printed.{energies_in}
-use Rattle.text.specs.Prints.{Prints, Holds, LinesLeft, priced_bytes}
+use Rattle.printing.specs.Sheet.{refused_bytes}
+use Rattle.text.specs.Prints.{Prints, Holds}
 use Rattle.text.specs.Statement.{told_bytes, answer_room}
 use Rattle.text.specs.Values.{no_readings}
 
@@ -35,28 +31,12 @@ pub prints_same : {out bytes other after : List ℕ} {n : ℕ} → Prints bytes 
 prints_same p e = rw (← e) p
 
 -- what is printed where there is the room of every answer and not too many notices
-pub prints : (bytes out after : List ℕ) (n notices numbers cents : ℕ) → line_numbers * notices ≤ numbers → notices ≤ cents → notices ≤ most_notices
-    → answer_room ≤ length out
-    → (n ≡ printed_count (cannot_print notices numbers cents (length out)) bytes)
-    × (after ≡ printed (cannot_print notices numbers cents (length out)) bytes out)
+pub prints : (bytes out after : List ℕ) (n notices numbers : ℕ) → 4 * notices ≤ numbers → notices ≤ most_notices → answer_room ≤ length out
+    → (n ≡ printed_count (cannot_print notices numbers (length out)) bytes) × (after ≡ printed (cannot_print notices numbers (length out)) bytes out)
     → Prints bytes out n after
-prints bytes out after n notices numbers cents a b c d e =
-    let all = all_printed bytes out (can_print notices numbers cents (length out) a b (omega arith)) in
+prints bytes out after n notices numbers a b c e =
+    let all = all_printed bytes out (can_print notices numbers (length out) a (omega arith)) in
     record { count = e.0 ∙ all.0; front = e.1 ∙ all.1 }
-
--- lines and the cents that were put for their energies, printed as a statement
-module _ (w p : ℕ) (l lines : List ℕ) (energy n : ℕ) (row out : List ℕ) (left : LinesLeft l lines n (length row) (length out)) where
-  pub priced_prints : {narrowed put after : List ℕ} {c : Priced} {r : ℕ} → narrowed ≡ energies_in lines n → c ≡ cents_of p narrowed (length row)
-      → put ≡ cents_written p narrowed row → length row ≡ length put
-      → (r ≡ printed_count (cannot_print (count_of l) (length lines) (length put) (length out)) (statement_bytes w p l lines put energy c.cents))
-      × (after ≡ printed (cannot_print (count_of l) (length lines) (length put) (length out)) (statement_bytes w p l lines put energy c.cents) out)
-      → Prints (priced_bytes w p l lines energy n row) out r after
-  unfolding priced_bytes
-  priced_prints {narrowed} {put} {after} {c} {r} narrow said written kept shown =
-      prints_same
-      (prints (statement_bytes w p l lines put energy c.cents) out after r (count_of l) (length lines) (length put) left.narrows.there
-      (omega (arith, kept, left.cents_for_lem)) left.few left.room shown)
-      (rw (said, written, narrow))
 
 -- the line of a refusal, or what is told without one
 module _ (a : Answer) (statement : List ℕ) where

@@ -21,10 +21,9 @@ use Rattle.form.specs.declared.whole.Form.{Form}
 use Rattle.form.specs.declared.whole.Shape.{Shape}
 use Rattle.laws.proofs.Tables.{row_stops, row_goes}
 use Rattle.laws.proofs.Tells.{Tells, place_in, table_tells}
-use Rattle.laws.specs.Table.{Row, refusal_at, first_of, is_refusal}
+use Rattle.laws.specs.Table.{Row, refusal_at, first_of}
 use Rattle.numerals.specs.Numbers.{numbers_in}
 use Rattle.printing.proofs.Shows.{refused_numbers}
-use Rattle.printing.specs.Sheet.{refused_bytes}
 use Rattle.text.specs.Refusals.{most_bytes, value_rows, text_table, text_refusal}
 use Rattle.text.specs.Statement.{statement_of, answer_room, starts_with, answered, answered_in}
 use Rattle.text.specs.Values.{is_broken, winter_said, price_said, misplaced_said}
@@ -90,13 +89,10 @@ module _ (s : List ℕ) where
       }
 
   -- a refused text prints its number and place
-  pub refused_statement : is_refusal (text_refusal s) ≡ true → statement_of s ≡ refused_bytes (text_refusal s).number (place_in (text_refusal s))
-  unfolding statement_of
-  refused_statement not = sym (refusal_told (text_refusal s) _ not refl)
-
   pub refused_shown : ((text_refusal s).number ≡ 0 → ⊥) → numbers_in (statement_of s) ≡ (text_refusal s).number ∷ place_in (text_refusal s) ∷ []
+  unfolding statement_of
   refused_shown not =
-      ap numbers_in (refused_statement (rw (ne_eqb (text_refusal s).number 0 not)))
+      ap numbers_in (sym (refusal_told (text_refusal s) _ (rw (ne_eqb (text_refusal s).number 0 not)) refl))
       ∙ refused_numbers (text_refusal s).number (place_in (text_refusal s))
 
 -- what the call leaves in its output: the answer at the front and the rest as it was, or nothing where there is no room for every answer

@@ -3,10 +3,9 @@ ghost use Rattle.std.specs.Prelude.{◌≡◌, ◌≤◌, length, take};
 ghost use Rattle.book.specs.Length.{book_length};
 ghost use Rattle.dates.specs.Winters.{days};
 ghost use Rattle.printing.specs.Sheet.{refused_bytes};
-ghost use Rattle.text.specs.Prints.{Prints, PrintsHeld, Arrays, InBook, NoticesLeft, LinesLeft, priced_bytes, values_bytes, shape_bytes};
+ghost use Rattle.text.specs.Prints.{Prints, PrintsHeld, Arrays, InBook, NoticesLeft, values_bytes, shape_bytes};
 ghost use Rattle.text.specs.Statement.{answer_room, answered, answered_in};
 
-use crate::energies::narrow;
 use dates::Days;
 use form::{Form, Shape};
 
@@ -18,49 +17,27 @@ fn refuse(number: u32, place: u64, out: &mut [u8]) -> usize
     printing::print_refusal(number, place, out)
 }
 
-// Prices the energies of lines, the second of the two calls, and prints the statement of the lines and their cents. The price is right and
-// the energies can be priced, so that the call refuses nothing.
-fn print_priced(
-    winter: u32,
-    price: u32,
-    list: &[u32],
-    lines: &[u64],
-    energy: u64,
-    energies: &mut [u32],
-    cents: &mut [u64],
-    out: &mut [u8],
-) -> usize
-    requires { LinesLeft list.now lines.now (length energies.old) (length cents.old) (length out.old) }
-    ensures { Prints (priced_bytes winter price list.now lines.now energy (length energies.old) cents.old)
-        out.old result out.new }
-{
-    narrow(lines, energies);
-    let total = money::cents(price, energies, cents).cents;
-    printing::print_statement(winter, price, list, lines, cents, energy, total, out)
-}
-
-// Settles a list, for whose lines, energies and cents there is just the room, and prints the settlement, or the refusal of its notices by the
-// first of the two calls.
+// Settles a list into lines, for which there is just the room, and prints the settlement, or the refusal of its notices.
 fn print_settled(
     winter: u32,
     book: &[u32],
     price: u32,
     list: &[u32],
     lines: &mut [u64],
-    energies: &mut [u32],
-    cents: &mut [u64],
     out: &mut [u8],
 ) -> usize
-    requires { NoticesLeft winter book.now price list.now (length lines.old) (length energies.old) (length cents.old) (length out.old) }
+    requires { NoticesLeft winter book.now price list.now lines.old out.old }
     ensures { Prints (values_bytes winter price list.now 0 book.now) out.old result out.new }
 {
-    let s = settlement::energies(winter, book, list, lines);
+    let s = credit::settle(winter, book, price, list, lines);
     let number = s.number;
     let place = s.place;
     if number != 0 {
         return refuse(number, place as u64, out);
     }
-    print_priced(winter, price, list, lines, s.energy, energies, cents, out)
+    let energy = s.energy;
+    let cents = s.cents;
+    printing::print_statement(winter, price, list, lines, energy, cents, out)
 }
 
 // Prints the answer to a text whose lines all lie in the book of its winter: 3, 4, and the settlement of the notices, of which the list has
@@ -78,17 +55,13 @@ fn print_notices(shape: Shape, list: &[u32], book: &[u32], out: &mut [u8]) -> us
     if notices::MOST_NOTICES < events {
         return refuse(4, 0, out);
     }
-    let mut lines = [0u64; settlement::MOST_LINE_NUMBERS];
-    let mut energies = [0u32; money::MOST_ENERGIES];
-    let mut cents = [0u64; money::MOST_ENERGIES];
+    let mut lines = [0u64; credit::MOST_LINE_NUMBERS];
     print_settled(
         winter,
         book,
         price,
         &list[..notices::NOTICE_NUMBERS * events],
-        &mut lines[..settlement::LINE_NUMBERS * events],
-        &mut energies[..events],
-        &mut cents[..events],
+        &mut lines[..credit::LINE_NUMBERS * events],
         out,
     )
 }

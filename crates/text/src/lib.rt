@@ -1,5 +1,4 @@
 // The statement of a text: one call.
 mod answer;
-mod energies;
 
 pub use answer::statement;

@@ -1,13 +1,13 @@
 -- What a host lends reads back: the numbers in the bytes of some numbers of 32 bits are these, one by one and then as a list.
 -- Assumes nothing.
 use Prim.Native.Nat.{ℕ, zero, suc, ◌+◌, ◌*◌, ◌/◌, ◌%◌, ◌^◌, ◌<◌}
-use mathlib.Core.List.{List, [], ◌∷◌}
-use mathlib.Core.Path.{◌≡◌, refl, ◌∙◌}
+use mathlib.Core.List.{List, [], ◌∷◌, ◌++◌, append-nil}
+use mathlib.Core.Path.{◌≡◌, refl, sym, ap, ◌∙◌}
 use native.Mathlib.Omega.{arith}
 use lib.ListN.{length, get_or, length-append}
 use lib.Seq.{ext_get_or}
 use Rattle.laws.proofs.Every.{Every}
-use Rattle.laws.proofs.RowLaws.{ones_at}
+use Rattle.laws.proofs.RowLaws.{one_wide, row_in}
 use Rattle.wire.specs.Bytes.{four_bytes_at, numbers_to}
 use Rattle.wire.specs.Lent.{four_bytes, lent_bytes}
 use Rattle.wire.proofs.ReadLaws.{numbers_long}
@@ -47,7 +47,10 @@ number_back_lem (v ∷ vs) (suc k) h fits =
 
 -- what stands at an index of the numbers of some bytes
 pub number_at_lem : (bytes : List ℕ) (n k : ℕ) → k < n → get_or (numbers_to bytes n) k 0 ≡ four_bytes_at bytes (4 * k)
-number_at_lem bytes n k h = ones_at (λ (i : ℕ). four_bytes_at bytes (4 * i)) n k h
+number_at_lem bytes n k h =
+    ap (λ (l : List ℕ). get_or l k 0) (sym (append-nil (numbers_to bytes n)))
+    ∙ ap (λ (i : ℕ). get_or (numbers_to bytes n ++ []) i 0) (let e : k ≡ 1 * k + 0 = omega arith in e)
+    ∙ row_in one_wide [] n k 0 h (omega arith)
 
 pub lent_back : (vs : List ℕ) → Every Fits vs → numbers_to (lent_bytes vs) (length vs) ≡ vs
 lent_back vs fits =

@@ -10,33 +10,28 @@ from typing import NamedTuple
 
 from common.c_programs import CROSS_RUN, driver
 from common.harness import Failure, run
-from second import power, settlements, two_calls
+from second import power, settlements
 from second.power import TOTALS_NUMBERS
-from second.settlements import LENT_BYTES, OUTPUT_BYTES
+from second.settlements import LENT_BYTES, LINE_NUMBERS, OUTPUT_BYTES, Line
 
-CHECK, ENERGIES, POWER, CENTS, SETTLE = 1, 2, 3, 4, 5
+CHECK, SETTLE, POWER = 1, 2, 3
 SAME_BOOK = 2**32 - 1
 
 # The longest part that the driver lends, less the farthest it may lie from a guard page.
 LONGEST_PART = 5 * 4096 - 15
 
 NOTICE_BYTES = 3 * LENT_BYTES
-LINE_BYTES = two_calls.LINE_NUMBERS * OUTPUT_BYTES
-CENTS_BYTES = two_calls.CENTS_NUMBERS * OUTPUT_BYTES
-POWER_LINE_BYTES = power.LINE_NUMBERS * OUTPUT_BYTES
+LINE_BYTES = LINE_NUMBERS * OUTPUT_BYTES
 TOTALS_BYTES = TOTALS_NUMBERS * OUTPUT_BYTES
 
 # What the driver saw besides the answer, by its marks.
-SECOND_CALL = 64
 MARKS = {
     1: "the book was changed",
-    2: "the list or the energies were changed",
+    2: "the list was changed",
     4: "bytes beside the output were changed",
     8: "memory outside was touched",
     16: "the references were changed",
     32: "bytes beside the totals were changed",
-    SECOND_CALL: "by the second of two calls",
-    128: "an energy has more than 32 bits",
 }
 
 
@@ -52,8 +47,7 @@ class Placing(NamedTuple):
 
 class Given(NamedTuple):
     """What a call gave: its answer, the driver's marks, and the bytes of the output and of the
-    totals after it. Of two calls in a row it is the answer of the first that is refused, or else
-    of the second; the totals are then the second one's output."""
+    totals after it."""
     answer: int
     marks: int = 0
     output: bytes = b""
@@ -65,32 +59,18 @@ class Given(NamedTuple):
     def place(self):
         return self.answer % 65_536
 
-    def by_second(self):
-        """Whether it is the answer of the second of two calls in a row."""
-        return self.marks & SECOND_CALL != 0
-
-    def lines(self, count, line):
+    def lines(self, count, line=Line):
         """The first lines of the output, so many, or as many as there are."""
-        size = OUTPUT_BYTES * len(line._fields)
-        whole = self.output[:min(count, len(self.output) // size) * size]
-        return tuple(line(*row) for row in struct.iter_unpack(f"<{len(line._fields)}Q", whole))
+        count = min(count, len(self.output) // LINE_BYTES)
+        whole = self.output[:count * LINE_BYTES]
+        return tuple(line(*numbers) for numbers in struct.iter_unpack("<4Q", whole))
 
     def __repr__(self):
         seen = [f" ({text})" for mark, text in MARKS.items() if self.marks & mark]
-        told = f"{self.number()},{self.place()}{''.join(seen)} {output_told(self.output)}"
-        return f"{told} totals {output_told(self.totals)}" if self.totals else told
-
-
-def output_numbers(output):
-    """The whole numbers of an output."""
-    count = len(output) // OUTPUT_BYTES
-    return struct.unpack_from(f"<{count}Q", output)
-
-
-def output_told(output):
-    """An output as it is told: its whole numbers, and then the bytes over."""
-    numbers = output_numbers(output)
-    return f"{[*numbers]} {output[OUTPUT_BYTES * len(numbers):].hex()}"
+        lines = self.lines(len(self.output))
+        rest = self.output[len(lines) * LINE_BYTES:].hex()
+        told = f"{self.number()},{self.place()}{''.join(seen)} {[*map(tuple, lines)]} {rest}"
+        return f"{told} totals {self.totals.hex(' ', 8)}" if self.totals else told
 
 
 class Check(NamedTuple):
@@ -112,69 +92,9 @@ class Check(NamedTuple):
         return Given(settlements.check_call(self.winter, self.profile, self.listed))
 
 
-class Energies(NamedTuple):
-    """The energies of a winter. The book and the list are bytes; the output has so many bytes, and
-    what they are before the call follows from the fill."""
-    winter: int
-    book: bytes
-    listed: bytes
-    length: int
-    fill: int = 0
-    placing: Placing = Placing()
-
-    references = b""
-    totals_length = 0
-    line = two_calls.Line
-
-    def header(self):
-        return ENERGIES, self.winter, 0, self.placing.number(), self.fill
-
-    def right(self):
-        """What the second program gives."""
-        output = output_before(self.fill, self.length)
-        answer, after = two_calls.energies_call(self.winter, self.book, self.listed, output)
-        return Given(answer, 0, after)
-
-    def __repr__(self):
-        return (
-            f"energies winter {self.winter}, book of {len(self.book)} bytes,"
-            f" list of {len(self.listed)} bytes {self.listed.hex(' ', 4)},"
-            f" output of {self.length} bytes, {self.placing}"
-        )
-
-
-class Cents(NamedTuple):
-    """The cents of energies, which are bytes and lent where others have their list. The output is
-    told as that of the energies."""
-    price: int
-    listed: bytes
-    length: int
-    fill: int = 0
-    placing: Placing = Placing()
-
-    book = references = b""
-    totals_length = 0
-
-    def header(self):
-        return CENTS, 0, self.price, self.placing.number(), self.fill
-
-    def right(self):
-        """What the second program gives."""
-        output = output_before(self.fill, self.length)
-        answer, after = two_calls.cents_call(self.price, self.listed, output)
-        return Given(answer, 0, after)
-
-    def __repr__(self):
-        return (
-            f"cents price {self.price}, energies of {len(self.listed)} bytes"
-            f" {self.listed.hex(' ', 4)}, output of {self.length} bytes, {self.placing}"
-        )
-
-
 class Settle(NamedTuple):
-    """Both calls in a row, as a host makes them: the energies, and where these are accepted the
-    cents of what they wrote, each energy lent again in 32 bits. Lengths and fill are as for the
-    first; where none is said, the second has just the room."""
+    """A settlement. The book and the list are bytes; the output has so many bytes, and what
+    they are before the call follows from the fill."""
     winter: int
     book: bytes
     price: int
@@ -182,52 +102,27 @@ class Settle(NamedTuple):
     length: int
     fill: int = 0
     placing: Placing = Placing()
-    cents_length: int = -1
 
     references = b""
-    line = two_calls.Line
-
-    @property
-    def totals_length(self):
-        """The bytes of the second call's output."""
-        just = CENTS_BYTES * (len(self.listed) // NOTICE_BYTES)
-        return min(just, LONGEST_PART) if self.cents_length < 0 else self.cents_length
+    totals_length = 0
+    line = Line
 
     def header(self):
         return SETTLE, self.winter, self.price, self.placing.number(), self.fill
 
     def right(self):
         """What the second program gives."""
-        output, cents = (output_before(self.fill, n) for n in (self.length, self.totals_length))
-        answer, after = two_calls.energies_call(self.winter, self.book, self.listed, output)
-        if answer:
-            return Given(answer, 0, after, cents)
-        lines = Given(answer, 0, after).lines(len(self.listed) // NOTICE_BYTES, self.line)
-        lent = struct.pack(f"<{len(lines)}I", *(line.energy for line in lines))
-        answer, cents = two_calls.cents_call(self.price, lent, cents)
-        return Given(answer, SECOND_CALL, after, cents)
-
-    def at_once(self):
-        """What both calls must come to by the second program's settlement in one walk. That has no
-        outputs and tries the price early: here the first output is tried behind the list's length,
-        and the price and the second output at the end."""
-        book, listed = map(settlements.lent_numbers, (self.book, self.listed))
-        wrong_price = self.price not in settlements.PRICES
-        price = 1 if wrong_price else self.price
-        given = settlements.settlement(settlements.Call(self.winter, book, price, listed))
-        count = len(self.listed) // NOTICE_BYTES
-        refused = given.number
-        if refused not in (1, 2, 4):
-            refused = 6 if self.length < LINE_BYTES * count else refused
-        if not refused:
-            refused = 3 if wrong_price else 6 if self.totals_length < CENTS_BYTES * count else 0
-        return given if refused == given.number else settlements.Settlement(refused, 0)
+        output = output_before(self.fill, self.length)
+        answer, after = settlements.settle_call(
+            self.winter, self.book, self.price, self.listed, output,
+        )
+        return Given(answer, 0, after)
 
     def __repr__(self):
         return (
             f"settle winter {self.winter}, book of {len(self.book)} bytes, price {self.price},"
             f" list of {len(self.listed)} bytes {self.listed.hex(' ', 4)},"
-            f" outputs of {self.length} and {self.totals_length} bytes, {self.placing}"
+            f" output of {self.length} bytes, {self.placing}"
         )
 
 
@@ -319,44 +214,14 @@ def both_of_calls(queries):
 
 
 def is_settlement(query):
-    """Whether a call settles a winter: its energies alone, or both calls in a row."""
-    return isinstance(query, (Energies, Settle))
-
-
-def lines_accepted(case, given):
-    """Whether a call wrote lines. Of two calls in a row the first did, where the second was
-    made."""
-    if isinstance(case.query, Settle):
-        return given.by_second()
-    return isinstance(case.query, (Energies, Power)) and given.answer == 0
-
-
-def first_lines(case, given):
-    """The lines that a call for a winter or a medium-power settlement wrote, none where it was
-    refused."""
-    if not lines_accepted(case, given):
-        return ()
-    return given.lines(len(case.query.listed) // NOTICE_BYTES, case.query.line)
-
-
-def cents_of(case, given):
-    """The cents that were written: by the call alone, or by the second of two."""
-    query = case.query
-    if given.answer != 0 or not isinstance(query, (Cents, Settle)):
-        return ()
-    if isinstance(query, Cents):
-        return output_numbers(given.output)[:len(query.listed) // LENT_BYTES]
-    return output_numbers(given.totals)[:len(query.listed) // NOTICE_BYTES]
+    return isinstance(query, Settle)
 
 
 def lines_of(case, given):
-    """The lines of an accepted call, none otherwise. Of two calls in a row they have the cents as
-    their last number."""
-    lines = first_lines(case, given) if given.answer == 0 else ()
-    if not isinstance(case.query, Settle):
-        return lines
-    cents = cents_of(case, given)
-    return tuple(settlements.Line(*line, one) for line, one in zip(lines, cents))
+    """The lines of an accepted settlement of either kind, none otherwise."""
+    query = case.query
+    accepted = isinstance(query, (Settle, Power)) and given.answer == 0
+    return given.lines(len(query.listed) // NOTICE_BYTES, query.line) if accepted else ()
 
 
 def totals_of(case, given):
@@ -368,7 +233,6 @@ def totals_of(case, given):
 
 
 def told(case, given):
-    """Number and place, the totals, and as many lines or cents as the case was built for."""
-    written = cents_of(case, given) if isinstance(case.query, Cents) else lines_of(case, given)
-    answer = (given.number(), given.place(), *totals_of(case, given), *written)
+    """Number and place, the totals, and as many lines as the case was built for."""
+    answer = (given.number(), given.place(), *totals_of(case, given), *lines_of(case, given))
     return answer[:len(case.built_for)]

@@ -109,37 +109,26 @@ def check_happened(rows, must_happen):
 
 def check_worth(settlements_made):
     """Demand 3 on the lines of accepted settlements, each with its price, with fractions."""
-    check_runs_worth(
-        ([line.energy for line in lines], [line.cents for line in lines], price)
-        for lines, price in settlements_made
-    )
-
-
-def check_runs_worth(priced):
-    """Demand 3 on energies that stand in a row, with their cents and the price, with fractions."""
-    runs = sum(worth_runs(*row) for row in priced)
-    print(f"  runs: {runs}")
+    runs = sum(worth_runs(lines, price) for lines, price in settlements_made)
+    print(f"  runs of lines: {runs}")
     if runs == 0:
-        raise Failure("there was none")
+        raise Failure("there was no line")
 
 
-def worth_runs(amounts, line_cents, price):
-    """The number of runs of these energies, each of which is worth its cents. Of the energies up to
-    each one, the cents less the exact worth are at most a half to either side. A run is those up to
-    its last less those before its first, so over all runs the largest difference is that between
-    the highest and the lowest of these: it is below 1. None has negative cents, which a number of
-    64 bits would show as a very high one. The cents in all are the worth of all energy, rounded."""
-    if len(amounts) != len(line_cents):
-        raise Failure(f"not as many cents as energies: {price}, {amounts}, {line_cents}")
-    cents = list(accumulate(line_cents, initial=0))
-    exact = [Fraction(energy * price, 18_000_000) for energy in accumulate(amounts, initial=0)]
+def worth_runs(lines, price):
+    """The number of runs of these lines, each of which is worth its cents. Of the lines up to
+    each one, the cents less the exact worth are at most a half to either side. A run of lines is
+    those up to its last less those before its first, so over all runs the largest difference is
+    that between the highest and the lowest of these: it is below 1. The cents in all are the
+    worth of all energy, rounded."""
+    cents = list(accumulate((line.cents for line in lines), initial=0))
+    amounts = accumulate((line.energy for line in lines), initial=0)
+    exact = [Fraction(energy * price, 18_000_000) for energy in amounts]
     off = [one - other for one, other in zip(cents, exact)]
-    if any(one not in range(2**63) for one in line_cents):
-        raise Failure(f"negative cents: {price}, {line_cents}")
     if max(map(abs, off)) > Fraction(1, 2):
-        raise Failure(f"more than half a cent off from the first: {price}, {amounts}, {line_cents}")
+        raise Failure(f"more than half a cent off from the first line: {price}, {lines}")
     if max(off) - min(off) >= 1:
-        raise Failure(f"a run is a cent off or more: {price}, {amounts}, {line_cents}")
+        raise Failure(f"a run of lines is a cent off or more: {price}, {lines}")
     if cents[-1] != settlements.rounded(exact[-1]):
-        raise Failure(f"the cents are not the worth in all: {price}, {amounts}, {line_cents}")
-    return len(amounts) * (len(amounts) + 1) // 2
+        raise Failure(f"the cents are not the rounded worth in all: {price}, {lines}")
+    return len(lines) * (len(lines) + 1) // 2

@@ -7,9 +7,7 @@ totals, where it has any, and lines where the call is accepted.
 
 from itertools import product
 
-from cases.calls import (
-    CENTS_BYTES, LINE_BYTES, POWER_LINE_BYTES, Cents, Check, Energies, Power, Settle,
-)
+from cases.calls import LINE_BYTES, Check, Power, Settle
 from cases.checks import ACCEPTED, Case
 from cases.event_books import bare_query, stepped_book, with_readings
 from cases.layers import ListQuery, number_and_place
@@ -219,7 +217,7 @@ EVENT_FIGURES = (
 
 
 def figure_case(listed, book, price, *lines):
-    """A settlement in winter 2026, by both calls in a row, that is accepted with these lines."""
+    """A settlement in winter 2026 that is accepted, with these lines."""
     query = Settle(2026, packed(book), price, packed(flat(listed)), LINE_BYTES * len(listed))
     return Case(query, (*ACCEPTED, *lines))
 
@@ -303,69 +301,6 @@ SETTLEMENT_FIGURES = (
 )
 
 
-# Rules 7.6 and 7.7, by the first call alone. Behind the sample's line is room for a fourth number.
-SAMPLE_BOOK = packed(stepped_book(sample_query()))
-ENERGIES_FIGURES = (
-    (
-        "the sample's energies: 0, 0, 81000, and a fourth number stays",
-        [
-            Case(
-                Energies(2026, SAMPLE_BOOK, packed((38, 6, 9)), LINE_BYTES + OUTPUT_BYTES, fill),
-                (*ACCEPTED, (0, 0, 81_000)),
-            )
-            for fill in (0, 90, 255)
-        ],
-    ),
-    (
-        "energies of the empty list: accepted",
-        [Case(Energies(2026, SAMPLE_BOOK, b"", length), ACCEPTED) for length in (0, 7, 24)],
-    ),
-)
-
-
-def priced_case(price, row, cents, more=0):
-    """Energies that are accepted, with these cents, and with so many numbers more in the output."""
-    query = Cents(price, packed(row), CENTS_BYTES * len(row) + OUTPUT_BYTES * more, fill=90)
-    return Case(query, (*ACCEPTED, *cents))
-
-
-def refused_energies(refusal, price=50_000, row=(1_500_000_001,), room=None):
-    """Energies that are refused; without a word on the room each has its own."""
-    length = CENTS_BYTES * (len(row) if room is None else room)
-    return Case(Cents(price, packed(row), length, fill=90), refusal)
-
-
-# Rules 4.34, 7.3, 7.4, 7.10 and 7.11, by the second call alone.
-CENTS_FIGURES = (
-    (
-        "an energy of 1,500,000,001: 3 at price 0, 4 of 101, 6 without room, then 7",
-        [
-            refused_energies((3, 0), price=0),
-            refused_energies((4, 0), row=(1_500_000_001,) * 101),
-            refused_energies((6, 0), room=0),
-            refused_energies((7, 0)),
-        ],
-    ),
-    (
-        "an energy of 1,500,000,001, second of two: 7 with place 1",
-        [
-            refused_energies((7, 1), row=(1_500_000_000, 1_500_000_001)),
-            refused_energies((7, 1), row=(0, 1_500_000_001)),
-        ],
-    ),
-    ("energy 128,520 at 50,000 alone: 357", [priced_case(50_000, (128_520,), (357,))]),
-    ("three energies of 180 at 50,000: 1, 0, 1", [priced_case(50_000, (180,) * 3, (1, 0, 1))]),
-    (
-        "the cents of two energies: a third number stays",
-        [priced_case(50_000, (180, 180), (1, 0), more=1)],
-    ),
-    (
-        "no energies: accepted",
-        [priced_case(price, (), (), more) for price in (1, 1_000_000) for more in (0, 1)],
-    ),
-)
-
-
 def power_case(watts, cents, notice, reading):
     """One event that draws so many Wh at each of its hours, with a reference that is so many W
     above. No other reading is there, and the output has a number more than the line."""
@@ -373,8 +308,7 @@ def power_case(watts, cents, notice, reading):
     book = even_book(2026, MISSING)
     book[place_of(day, first):place_of(day, end)] = [reading] * (end - first)
     references = packed([reading + watts])
-    length = POWER_LINE_BYTES + OUTPUT_BYTES
-    query = Power(2026, packed(book), packed(notice), references, length)
+    query = Power(2026, packed(book), packed(notice), references, LINE_BYTES + OUTPUT_BYTES)
     line = (0, 0, watts * (end - first), 12 * watts)
     return Case(query, (*ACCEPTED, 12 * watts, 1, cents, line))
 

@@ -9,7 +9,7 @@ import random
 from functools import cache
 from typing import NamedTuple
 
-from cases.calls import POWER_LINE_BYTES, TOTALS_BYTES, Power
+from cases.calls import LINE_BYTES, TOTALS_BYTES, Power
 from cases.checks import ACCEPTED, Case
 from cases.event_books import FAULTS, FAULTY_BOOKS, SOUND_BOOKS, parts
 from cases.notice_lists import (
@@ -173,7 +173,7 @@ def power_query(source, winter, book, listed, references):
     bytes."""
     return Power(
         winter, book, packed(flat(listed)), packed(references),
-        POWER_LINE_BYTES * len(listed) + drawn_spare(source), TOTALS_BYTES + drawn_spare(source),
+        LINE_BYTES * len(listed) + drawn_spare(source), TOTALS_BYTES + drawn_spare(source),
         source.randrange(256), drawn_placing(source),
     )
 
@@ -317,7 +317,7 @@ def wrong_call(source, winter, wrong):
     if short_totals:
         query = query._replace(totals_length=source.choice(SHORT_TOTALS))
     if short_output:
-        need = POWER_LINE_BYTES * len(listed)
+        need = LINE_BYTES * len(listed)
         query = query._replace(length=source.choice((0, 1, need - 32, need - 8, need - 1)))
     if wrong_list:
         query = query._replace(listed=source.choice(wrong_lists(query.listed)))

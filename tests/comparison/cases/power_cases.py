@@ -8,7 +8,7 @@ import random
 from itertools import product
 from math import gcd
 
-from cases.calls import LONGEST_PART, NOTICE_BYTES, POWER_LINE_BYTES, TOTALS_BYTES
+from cases.calls import LINE_BYTES, LONGEST_PART, NOTICE_BYTES, TOTALS_BYTES
 from cases.checks import ACCEPTED, Case
 from cases.event_books import FAULTS
 from cases.notice_lists import (
@@ -188,7 +188,7 @@ def list_lengths():
     and outputs that would do for them all."""
     source = random.Random(SEED)
     plans = drawn_plans(source, notices_of(source, 2026, [3] * MOST_SHORT))
-    query = planned_case(source, 2026, plans).query._replace(length=POWER_LINE_BYTES * 100)
+    query = planned_case(source, 2026, plans).query._replace(length=LINE_BYTES * 100)
     listed, references = (lent + bytes(4 * LONGEST_LIST) for lent in query[2:4])
     around = range(MOST_SHORT * NOTICE_BYTES - 13, MOST_SHORT * NOTICE_BYTES + 26)
     return [
@@ -226,7 +226,7 @@ def output_lengths():
     source = random.Random(SEED)
     cases = []
     for count, right in short_cases(source):
-        need = POWER_LINE_BYTES * count
+        need = LINE_BYTES * count
         around = range(max(0, need - 9), need + 10)
         lengths = [(one, TOTALS_BYTES) for one in {*range(41), *around, need + 31, need + 700}]
         lengths += [(need, one) for one in (*range(50), 1_000)]

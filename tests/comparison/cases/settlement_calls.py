@@ -1,15 +1,12 @@
 """Calls for the settlement's tests, most of them built for an answer known beforehand.
 
-A call is a query of calls.py, most often both calls in a row. It is built for a number and a
-place, and for its lines with their cents if they are known: where its book is a level one, they
-are. `source` is a seeded random.Random everywhere.
+A call is a query of calls.py, built for a number and a place, and for its lines if they are
+known: where its book is a level one, they are. `source` is a seeded random.Random everywhere.
 """
 
 from itertools import accumulate
 
-from cases.calls import (
-    CENTS_BYTES, LINE_BYTES, LONGEST_PART, NOTICE_BYTES, Energies, Placing, Settle,
-)
+from cases.calls import LINE_BYTES, LONGEST_PART, NOTICE_BYTES, Placing, Settle
 from cases.checks import ACCEPTED, Case
 from cases.event_books import FAULTS, LISTS, formula_energy, sums_for, unlimited
 from cases.notice_lists import FARTHEST, WAYS, a_few, flat, many, one_notice, room, spoil
@@ -18,7 +15,7 @@ from cases.settlement_books import (
     book_length, book_of_sums, drawn_book, drawn_savings, even_book, first_fault, level_book,
     level_energies, lowered, needed_places, packed, warm_up_places,
 )
-from second import two_calls, winters
+from second import winters
 from second.notices import MOST_NOTICES
 from second.settlements import Line
 
@@ -46,27 +43,13 @@ def drawn_spare(source):
 
 
 def settle(source, winter, book, price, listed, spare=None):
-    """A settlement of these notices with the lent bytes of a book. The outputs have what they
-    need and some spare bytes, of the second call none or a few."""
+    """A settlement of these notices with the lent bytes of a book. The output has what it
+    needs and some spare bytes."""
     if spare is None:
         spare = drawn_spare(source)
     length = LINE_BYTES * len(listed) + spare
     lent = packed(flat(listed))
-    fill = source.randrange(256)
-    cents_length = CENTS_BYTES * len(listed) + max(0, fill - 128)
-    return Settle(winter, book, price, lent, length, fill, drawn_placing(source), cents_length)
-
-
-def unpriced(case):
-    """The first of two calls by itself, built for the same but without the cents. It is given no
-    price, so one that is wrong leaves it accepted."""
-    call = case.query
-    query = Energies(call.winter, call.book, call.listed, call.length, call.fill, call.placing)
-    if case.built_for is None:
-        return Case(query)
-    number, place, *lines = case.built_for
-    answer = ACCEPTED if number == 3 else (number, place)
-    return Case(query, (*answer, *(two_calls.Line(*line[:3]) for line in lines)))
+    return Settle(winter, book, price, lent, length, source.randrange(256), drawn_placing(source))
 
 
 def built_lines(lines, price):
@@ -151,10 +134,9 @@ def wrong_lists(lent):
 
 
 def wrong_call(source, winter, wrong):
-    """Both calls in a row, which break these of the first one's rules, have a wrong notice or break
-    the second's rule for the price, as the flags say. The first in the order decides: the price
-    comes last."""
-    wrong_winter, wrong_book, wrong_list, short_output, wrong_notice, wrong_price = wrong
+    """A call that breaks these of the settlement's rules, and has a wrong notice too if the
+    last flag says so. The first in the order decides."""
+    wrong_winter, wrong_book, wrong_price, wrong_list, short_output, wrong_notice = wrong
     listed, fault = a_few(source, winter, 1), ACCEPTED
     if wrong_notice:
         made = [spoil(source, winter, 1, listed, way) for way in WAYS]
@@ -164,7 +146,7 @@ def wrong_call(source, winter, wrong):
         query = query._replace(listed=source.choice(wrong_lists(query.listed)))
     if short_output:
         need = LINE_BYTES * len(listed)
-        query = query._replace(length=source.choice((0, 1, need - 24, need - 8, need - 1)))
+        query = query._replace(length=source.choice((0, 1, need - 32, need - 8, need - 1)))
     if wrong_price:
         query = query._replace(price=source.choice(WRONG_PRICES))
     if wrong_book:
@@ -172,9 +154,8 @@ def wrong_call(source, winter, wrong):
         query = query._replace(book=(query.book * 2)[:length])
     if wrong_winter:
         query = query._replace(winter=source.choice(WRONG_WINTERS))
-    places = ((1, 0), (2, 0), (4, 0), (6, 0), fault, (3, 0))
-    broken = [refusal for refusal, is_wrong in zip(places, wrong) if is_wrong]
-    return Case(query, broken[0] if broken else ACCEPTED)
+    broken = [number for number, is_wrong in zip((1, 2, 3, 4, 6), wrong) if is_wrong]
+    return Case(query, (broken[0], 0) if broken else fault)
 
 
 # Plausible calls, and ways to make one thing in a call random.
@@ -233,12 +214,7 @@ def any_output(source, query):
     return query._replace(length=source.randrange(2 * query.length + 2))
 
 
-def any_cents_output(source, query):
-    """A second output of another length."""
-    return query._replace(cents_length=source.randrange(2 * query.cents_length + 2))
-
-
 ANYTHING = (
     any_winter, any_readings, any_book, any_price, any_notices, any_byte_of_the_list, any_list,
-    any_output, any_cents_output,
+    any_output,
 )

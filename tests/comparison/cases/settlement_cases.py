@@ -1,16 +1,14 @@
 """The groups of calls from C that the list check and the settlement are compared on.
 
-Settlements are both calls in a row; of some groups the energies are asked for alone, too. Most
-calls are built for a number and a place, many for all their lines too. Everything is drawn from
-one seed, so the calls are the same in every run.
+Most calls are built for a number and a place, many for all their lines too. Everything is drawn
+from one seed, so the calls are the same in every run.
 """
 
 import random
 from datetime import date, timedelta
-from functools import partial
 from itertools import product
 
-from cases.calls import CENTS_BYTES, LINE_BYTES, LONGEST_PART, Check
+from cases.calls import LINE_BYTES, LONGEST_PART, Check
 from cases.checks import ACCEPTED, Case
 from cases.clock_calls import CALL_GROUPS
 from cases.event_books import EVENT_HOURS, FAULTS, FAULTY_BOOKS, LIMIT, RELATIONS, far_above_limit
@@ -28,7 +26,7 @@ from cases.settlement_books import (
 from cases.settlement_calls import (
     ANYTHING, EDGE_PRICES, LONGEST_LIST, NOTICE_BYTES, WRONG_PRICES, built_lines, changed_cases,
     drawn_list, drawn_placing, drawn_price, even_case, faulty_case, level_case, plausible_call,
-    settle, trial_case, unpriced, wrong_books, wrong_call,
+    settle, trial_case, wrong_books, wrong_call,
 )
 from second import settlements, winters
 from second.energies import HIGHEST_READING, HOURS, MISSING
@@ -41,8 +39,7 @@ HALVING_PRICES = (1_000_000, 1_000_000, 500_000, 250_000, 200_000, 100_000, 50_0
 SEED = 2026
 LISTS_OF_A_GROUP = 400
 RANDOM_CHECKS = 1_000
-RANDOM_SETTLEMENTS = 2_000
-MOST_ALONE = 700
+RANDOM_SETTLEMENTS = 1_200
 
 
 # The groups of list checks.
@@ -192,7 +189,7 @@ def faults_at_every_place():
 
 
 def wrong_calls():
-    """Winter, book, list, output, notices and price, wrong alone and together."""
+    """Winter, book, price, list, output and notices, wrong alone and together."""
     source = random.Random(SEED)
     return [
         wrong_call(source, winter, wrong)
@@ -242,24 +239,6 @@ def output_lengths():
         for length in sorted({*range(41), *around, need + 31, need + 32, need + 700}):
             query = right.query._replace(
                 length=length, fill=source.randrange(256), placing=drawn_placing(source),
-            )
-            cases.append(Case(query, right.built_for if length >= need else (6, 0)))
-    return cases
-
-
-def second_output_lengths():
-    """The second call's outputs of 0 to 40 bytes, and a little shorter and longer than needed,
-    behind a first call that is accepted."""
-    source = random.Random(SEED)
-    cases = []
-    for count in (0, 1, 2, 25, 100):
-        listed = list_of_count(source, 2026, 1, count, count)
-        need = CENTS_BYTES * count
-        right = level_case(source, 2026, listed, drawn_price(source))
-        around = range(max(0, need - 9), need + 10)
-        for length in sorted({*range(41), *around, need + 700}):
-            query = right.query._replace(
-                cents_length=length, fill=source.randrange(256), placing=drawn_placing(source),
             )
             cases.append(Case(query, right.built_for if length >= need else (6, 0)))
     return cases
@@ -427,43 +406,12 @@ def faulty_books():
     return cases
 
 
-def two_prices():
-    """One winter at several prices, wrong ones among them: the energies are the same at each, and
-    the cents follow from the price alone."""
-    source = random.Random(SEED)
-    cases = []
-    for winter in winters.WINTERS[::4]:
-        right = level_case(source, winter, source.choice((a_few, many))(source, winter, 1), 1)
-        lines = [line[:3] for line in right.built_for[2:]]
-        for price in (*EDGE_PRICES, *(drawn_price(source) for _ in range(4))):
-            cases.append(Case(right.query._replace(price=price), built_lines(lines, price)))
-        for price in source.sample(WRONG_PRICES, 2):
-            cases.append(Case(right.query._replace(price=price), (3, 0)))
-    return cases
-
-
 def random_settlements():
     """Plausible settlements, in more than half of which something is made random."""
     how_many = (0, 0, 0, 1, 1, 1, 2, len(ANYTHING))
     return changed_cases(
         random.Random(SEED), RANDOM_SETTLEMENTS, plausible_call, ANYTHING, how_many,
     )
-
-
-# Groups of which the first call is made by itself, too.
-ALONE = (
-    ("spoilt lists", spoilt_lists),
-    ("several rules broken at once", wrong_calls),
-    ("lengths of books", book_lengths),
-    ("lengths of lists", list_lengths),
-    ("lengths of outputs", output_lengths),
-    ("random settlements", random_settlements),
-)
-
-
-def alone(make):
-    """A group's first calls by themselves, so many at most."""
-    return [unpriced(case) for case in make()[:MOST_ALONE]]
 
 
 GROUPS = (
@@ -480,9 +428,7 @@ GROUPS = (
     ("lengths of books", book_lengths),
     ("lengths of lists", list_lengths),
     ("lengths of outputs", output_lengths),
-    ("lengths of the second output", second_output_lengths),
     ("prices", prices),
-    ("one winter at several prices", two_prices),
     ("trials around the limit", trials_around_the_limit),
     ("faults at needed readings", needed_faults),
     ("a fault at each needed reading", each_needed_fault),
@@ -493,5 +439,4 @@ GROUPS = (
     ("faulty books", faulty_books),
     *CALL_GROUPS,
     ("random settlements", random_settlements),
-    *((f"energies alone: {name}", partial(alone, make)) for name, make in ALONE),
 )

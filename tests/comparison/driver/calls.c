@@ -6,15 +6,10 @@
  * of the book. A book's length of 4294967295 means the book of the query before, as it lies. An
  * answer is two numbers of 32 bits, the library's answer and the marks below, then the bytes of
  * the output and of the totals after the call. A call is lent what it has parameters for; the
- * lengths of all else are 0. The cents have their energies where others have the list.
- *
- * To settle is to make two calls, as a host does: the energies, and where these are accepted the
- * cents of the energies in the output, which are copied into numbers of 32 bits. The cents are
- * written where other calls have totals. The answer is the second one's then, which a mark says.
+ * lengths of all else are 0.
  *
  * Where the lent parts lie is said in parts.h, and how far from a guard page by the placing. */
 
-#include <stdbool.h>
 #include <stdint.h>
 #include <stdio.h>
 
@@ -23,7 +18,7 @@
 
 enum { ROOM = 5 * 4096 };
 
-enum { CHECK = 1, ENERGIES = 2, POWER = 3, CENTS = 4, SETTLE = 5 };
+enum { CHECK = 1, SETTLE = 2, POWER = 3 };
 
 /* Placing: which guard page a part lies at, and its distance from that page. */
 enum { AT_GUARD_BEFORE = 1, DISTANCE = 15 << 1 };
@@ -35,15 +30,7 @@ enum {
     AROUND_OUTPUT_CHANGED = 4,
     FAULT = 8,
     REFERENCES_CHANGED = 16,
-    AROUND_TOTALS_CHANGED = 32,
-    SECOND_CALL = 64,
-    TOO_WIDE = 128
-};
-
-enum {
-    NOTICE_BYTES = IBISLADDER_NOTICE_NUMBERS * IBISLADDER_NUMBER_BYTES,
-    LINE_BYTES = IBISLADDER_LINE_NUMBERS * IBISLADDER_OUT_NUMBER_BYTES,
-    ENERGY_AT = 2 * IBISLADDER_OUT_NUMBER_BYTES /* behind the code and the place of a line */
+    AROUND_TOTALS_CHANGED = 32
 };
 
 #define SAME_BOOK UINT32_MAX
@@ -53,7 +40,7 @@ struct query {
     uint32_t list_length, references_length, out_length, totals_length, book_length;
 };
 
-static struct part book, list, references, out, totals, energies;
+static struct part book, list, references, out, totals;
 
 static void set_up_all(void)
 {
@@ -63,7 +50,6 @@ static void set_up_all(void)
     set_up_part(&references, ROOM);
     set_up_part(&out, ROOM);
     set_up_part(&totals, ROOM);
-    set_up_part(&energies, ROOM);
 }
 
 static void place(struct part *part, uint32_t placing, size_t length)
@@ -95,25 +81,6 @@ static uint32_t number_at(const uint8_t *bytes)
     return bytes[0] | (uint32_t)bytes[1] << 8 | (uint32_t)bytes[2] << 16 | (uint32_t)bytes[3] << 24;
 }
 
-/* Lends the energies of the lines again, the first four bytes of each, whose other four must be 0.
- * Gives the mark where one is not. */
-static uint32_t narrow_energies(uint32_t placing)
-{
-    size_t lines = list.length / NOTICE_BYTES, room = out.length / LINE_BYTES;
-    uint32_t marks = 0;
-    lines = lines < room ? lines : room;
-    place(&energies, placing, lines * IBISLADDER_NUMBER_BYTES);
-    for (size_t i = 0; i < lines; i++) {
-        const uint8_t *energy = out.first + LINE_BYTES * i + ENERGY_AT;
-        for (size_t byte = 0; byte < IBISLADDER_NUMBER_BYTES; byte++)
-            energies.first[IBISLADDER_NUMBER_BYTES * i + byte] = energy[byte];
-        if (number_at(energy + IBISLADDER_NUMBER_BYTES) != 0)
-            marks = TOO_WIDE;
-    }
-    remember_part(&energies);
-    return marks;
-}
-
 static int read_query(struct query *query)
 {
     uint8_t header[40];
@@ -143,7 +110,6 @@ static void read_parts(const struct query *query)
         read_part(&book, query->placing, query->book_length);
     fill_output(&out, query->placing, query->fill, query->out_length);
     fill_output(&totals, query->placing, query->fill, query->totals_length);
-    place(&energies, query->placing, 0);
 }
 
 struct made {
@@ -157,12 +123,9 @@ static void call(void *given)
     const struct query *query = made->query;
     if (query->call == CHECK)
         made->answer = ibisladder_check(query->winter, query->number, list.first, list.length);
-    else if (query->call == ENERGIES || query->call == SETTLE)
-        made->answer = ibisladder_energies(query->winter, book.first, book.length, list.first,
-                                           list.length, out.first, out.length);
-    else if (query->call == CENTS)
-        made->answer = ibisladder_cents(query->number, list.first, list.length, out.first,
-                                        out.length);
+    else if (query->call == SETTLE)
+        made->answer = ibisladder_settle(query->winter, book.first, book.length, query->number,
+                                         list.first, list.length, out.first, out.length);
     else if (query->call == POWER)
         made->answer = ibisladder_power(query->winter, book.first, book.length, list.first,
                                         list.length, references.first, references.length,
@@ -171,19 +134,10 @@ static void call(void *given)
         give_up("there is no such call");
 }
 
-/* The second call of a settlement. */
-static void call_cents(void *given)
-{
-    struct made *made = given;
-    made->answer = ibisladder_cents(made->query->number, energies.first, energies.length,
-                                    totals.first, totals.length);
-}
-
 static uint32_t found_changes(void)
 {
-    bool list_changed = part_changed(&list) || part_changed(&energies);
     return (uint32_t)((part_changed(&book) ? BOOK_CHANGED : 0)
-                      | (list_changed ? LIST_CHANGED : 0)
+                      | (part_changed(&list) ? LIST_CHANGED : 0)
                       | (part_changed(&references) ? REFERENCES_CHANGED : 0)
                       | (part_changed_beside(&out, out.length) ? AROUND_OUTPUT_CHANGED : 0)
                       | (part_changed_beside(&totals, totals.length) ? AROUND_TOTALS_CHANGED : 0));
@@ -197,7 +151,6 @@ static void put_back_all(void)
     put_back_part(&references);
     put_back_part(&out);
     put_back_part(&totals);
-    put_back_part(&energies);
 }
 
 static void write_number(uint32_t number)
@@ -210,16 +163,12 @@ static void answer(const struct query *query)
 {
     struct made made = {query, 0};
     uint32_t marks = touches_outside(call, &made) ? FAULT : 0;
-    if (query->call == SETTLE && marks == 0 && made.answer == 0) {
-        marks |= SECOND_CALL | narrow_energies(query->placing);
-        marks |= touches_outside(call_cents, &made) ? FAULT : 0;
-    }
     marks |= found_changes();
     write_number(made.answer);
     write_number(marks);
     fwrite(out.first, 1, out.length, stdout);
     fwrite(totals.first, 1, totals.length, stdout);
-    if ((marks & ~(uint32_t)SECOND_CALL) != 0)
+    if (marks != 0)
         put_back_all();
 }
 

@@ -1,11 +1,11 @@
 /* Calls the library from C in every awkward way: hostile end|start SEED LONGEST RANDOM.
  *
  * All parts are lent at the guard page behind them (end) or before them (start). LONGEST is the
- * length up to which every length of list, book and output is tried with every other, and so are
- * those of energies and output, and of the medium-power settlement's list and references; RANDOM
- * is how many lists and books are drawn for either settlement, and how many rows of energies.
- * Numbers are drawn from SEED. What a call is held to is said in trial.h. It prints how often each
- * answer was given, and ends with exit status 0; or it says what differed, and ends with 1. */
+ * length up to which every length of list, book and output is tried with every other, and of the
+ * medium-power settlement every length of list and references; RANDOM is how many lists and
+ * books are drawn for either settlement. Numbers are drawn from SEED. What a call is held to is
+ * said in trial.h. It prints how often each answer was given, and ends with exit status 0; or it
+ * says what differed, and ends with 1. */
 
 #define _DEFAULT_SOURCE /* mmap's MAP_ANONYMOUS and MAP_NORESERVE */
 
@@ -35,6 +35,11 @@ static size_t beside(size_t length, int more)
     return more < 0 && length < (size_t)-more ? 0 : length + (size_t)more;
 }
 
+static size_t room_for(size_t list_length)
+{
+    return list_length / NOTICE_BYTES * LINE_BYTES;
+}
+
 /* More than half of the parts touch their guard page, the others lie off it. */
 static size_t draw_distance(void)
 {
@@ -48,9 +53,9 @@ static struct lent lent(const uint8_t *bytes, size_t length)
 
 /* Lengths of outputs, most of them right. */
 
-static size_t draw_out_length(enum function function, size_t list_length)
+static size_t draw_out_length(size_t list_length)
 {
-    size_t room = room_for(function, list_length);
+    size_t room = room_for(list_length);
     size_t longest = OUT_ROOM - FARTHEST;
     size_t length = draw_once_in(16) ? draw_below((uint32_t)longest)
                                      : beside(room, BESIDE_ROOM[draw_below(COUNT(BESIDE_ROOM))]);
@@ -70,25 +75,15 @@ static struct trial check_of(uint32_t winter, uint32_t profile, struct lent list
     return (struct trial){.function = CHECK, .winter = winter, .number = profile, .list = list};
 }
 
-/* With the winter's sound book and just the room in the output; and then priced. */
+/* With the winter's sound book and just the room in the output. */
 static struct trial settle_of(uint32_t winter, uint32_t price, struct lent list)
 {
-    return (struct trial){.function = ENERGIES,
+    return (struct trial){.function = SETTLE,
                           .winter = winter,
                           .number = price,
                           .list = list,
                           .book = lent(book_of(SOUND), book_length(winter)),
-                          .out = lent(output_of(NOISE), room_for(ENERGIES, list.length))};
-}
-
-/* With just the room in the output, or as much as there is. */
-static struct trial cents_of(uint32_t price, struct lent energies)
-{
-    size_t room = room_for(CENTS, energies.length), longest = OUT_ROOM - FARTHEST;
-    return (struct trial){.function = CENTS,
-                          .number = price,
-                          .list = energies,
-                          .out = lent(output_of(NOISE), room < longest ? room : longest)};
+                          .out = lent(output_of(NOISE), room_for(list.length))};
 }
 
 /* With sound references, the winter's sound book and just the room in both outputs. */
@@ -100,7 +95,7 @@ static struct trial power_of(uint32_t winter, struct lent list)
                           .list = list,
                           .references = lent(references_of(SOUND), references),
                           .book = lent(book_of(SOUND), book_length(winter)),
-                          .out = lent(output_of(NOISE), room_for(POWER, list.length)),
+                          .out = lent(output_of(NOISE), room_for(list.length)),
                           .totals = lent(output_of(NOISE), TOTALS_BYTES)};
 }
 
@@ -114,7 +109,7 @@ static void try_outputs(struct trial trial, size_t longest)
         try_call(&trial);
     }
     for (size_t i = 0; i < COUNT(BESIDE_ROOM); i++) {
-        size_t length = beside(room_for(trial.function, trial.list.length), BESIDE_ROOM[i]);
+        size_t length = beside(room_for(trial.list.length), BESIDE_ROOM[i]);
         trial.out = lent(output_of(draw_below(KINDS)), length);
         try_call(&trial);
     }
@@ -138,7 +133,7 @@ static void try_totals(struct trial trial)
 {
     for (size_t out = 0; out < COUNT(BESIDE_ROOM); out++)
         for (size_t totals = 0; totals < COUNT(BESIDE_TOTALS); totals++) {
-            size_t length = beside(room_for(POWER, trial.list.length), BESIDE_ROOM[out]);
+            size_t length = beside(room_for(trial.list.length), BESIDE_ROOM[out]);
             trial.out = lent(output_of(draw_below(KINDS)), length);
             length = beside(TOTALS_BYTES, BESIDE_TOTALS[totals]);
             trial.totals = lent(output_of(draw_below(KINDS)), length);
@@ -168,8 +163,6 @@ static void try_lengths(size_t longest)
         struct trial check = check_of(winter, 1 + draw_below(2), list);
         try_call(&check);
         try_books(settle_of(winter, PRICE, list), longest);
-        enum kind kind = draw_once_in(2) ? SOUND : draw_below(KINDS);
-        try_outputs(cents_of(PRICE, lent(energies_of(kind), length)), longest);
         try_references(power_of(winter, lent(power_list(), length)), longest);
     }
 }
@@ -198,7 +191,7 @@ static void try_long_power_list(uint32_t winter, size_t list_length)
             struct trial power = power_of(winter, list);
             power.book.length = beside(power.book.length, BESIDE[book]);
             power.references.length = beside(power.references.length, BESIDE[references]);
-            power.out.length = draw_out_length(POWER, list_length);
+            power.out.length = draw_out_length(list_length);
             power.totals.length = draw_totals_length();
             try_call(&power);
         }
@@ -216,25 +209,6 @@ static void try_long_lists(void)
         }
 }
 
-/* Rows of energies, with lengths at both sides of the right ones, and bytes over. */
-static void try_long_rows(void)
-{
-    static const size_t COUNTS[] = {0, 1, 2, 25, 99, 100, 101, 102, 200, 500, 1000, 2000};
-    static const int OVER[] = {0, -3, -2, -1, 1, 2, 3, 4};
-    for (size_t i = 0; i < COUNT(COUNTS); i++)
-        for (size_t more = 0; more < COUNT(OVER); more++)
-            for (enum kind kind = 0; kind < KINDS; kind++) {
-                size_t length = beside(COUNTS[i] * NUMBER_BYTES, OVER[more]);
-                struct trial cents = cents_of(PRICE, lent(energies_of(kind), length));
-                size_t room = cents.out.length;
-                for (size_t out = 0; out < COUNT(BESIDE_ROOM); out++) {
-                    cents.out.length = beside(room, BESIDE_ROOM[out]);
-                    if (cents.out.length <= OUT_ROOM - FARTHEST)
-                        try_call(&cents);
-                }
-            }
-}
-
 /* Each part at every distance from its guard page, an accepted call and a refused one. */
 
 /* Of the medium-power settlement list, book and output lie at any. */
@@ -246,17 +220,6 @@ static void try_power_distances(size_t places)
     try_call(&power);
     power.references.bytes = references_of(NOISE);
     try_call(&power);
-}
-
-/* Of the cents both parts. */
-static void try_cents_distances(size_t places)
-{
-    struct trial cents = cents_of(PRICE, lent(energies_of(SOUND), 3 * NUMBER_BYTES));
-    cents.list.distance = places % 8;
-    cents.out.distance = places / 8 % 8;
-    try_call(&cents);
-    cents.list.bytes = energies_of(ONES);
-    try_call(&cents);
 }
 
 static void try_distances(void)
@@ -272,7 +235,6 @@ static void try_distances(void)
         struct trial check = check_of(WINTER, 1 + places / 64 % 2, settle.list);
         try_call(&check);
         try_power_distances(places);
-        try_cents_distances(places);
     }
 }
 
@@ -301,23 +263,8 @@ static void try_numbers_with(uint32_t winter, enum kind of_list, enum kind of_bo
     }
 }
 
-/* Awkward prices over energies of every kind. */
-static void try_prices(void)
-{
-    for (enum kind kind = 0; kind < KINDS; kind++)
-        for (size_t i = 0; i < COUNT(PRICES); i++)
-            for (size_t count = 0; count <= IBISLADDER_MOST_ENERGIES + 1; count++) {
-                struct lent energies = lent(energies_of(kind), count * NUMBER_BYTES);
-                struct trial cents = cents_of(PRICES[i], energies);
-                cents.out.bytes = output_of((kind + i + count) % KINDS);
-                cents.out.length += count % 3 == 0 ? CENTS_BYTES : 0;
-                try_call(&cents);
-            }
-}
-
 static void try_numbers(void)
 {
-    try_prices();
     for (size_t i = 0; i < COUNT(WINTERS); i++)
         for (enum kind of_list = 0; of_list < KINDS; of_list++)
             for (enum kind of_book = 0; of_book < KINDS; of_book++)
@@ -343,40 +290,19 @@ static void try_far_length(uint8_t *bytes, size_t far)
 
     hold_number(CHECK, ibisladder_check(WINTER, 1, bytes, far + NOTICE_BYTES),
                 IBISLADDER_REFUSED_LIST);
-    hold_number(ENERGIES, ibisladder_energies(WINTER, bytes, far + length, list, NOTICE_BYTES, out,
-                                              LINE_BYTES), IBISLADDER_REFUSED_BOOK);
-    hold_number(ENERGIES, ibisladder_energies(WINTER, book, length, bytes, far + NOTICE_BYTES, out,
-                                              LINE_BYTES), IBISLADDER_REFUSED_LIST);
-    hold_number(ENERGIES, ibisladder_energies(WINTER, book, length, list, NOTICE_BYTES, bytes, far),
-                IBISLADDER_ACCEPTED);
-    hold_number(ENERGIES, ibisladder_energies(WINTER, book, length, list, NOTICE_BYTES, out,
-                                              LINE_BYTES), IBISLADDER_ACCEPTED);
+    hold_number(SETTLE, ibisladder_settle(WINTER, bytes, far + length, PRICE, list, NOTICE_BYTES,
+                                          out, LINE_BYTES), IBISLADDER_REFUSED_BOOK);
+    hold_number(SETTLE, ibisladder_settle(WINTER, book, length, PRICE, bytes, far + NOTICE_BYTES,
+                                          out, LINE_BYTES), IBISLADDER_REFUSED_LIST);
+    hold_number(SETTLE, ibisladder_settle(WINTER, book, length, PRICE, list, NOTICE_BYTES, bytes,
+                                          far), IBISLADDER_ACCEPTED);
+    hold_number(SETTLE, ibisladder_settle(WINTER, book, length, PRICE, list, NOTICE_BYTES, out,
+                                          LINE_BYTES), IBISLADDER_ACCEPTED);
     if (memcmp(bytes, out, LINE_BYTES) != 0)
         say_difference("an output with a length past 32 bits got another line");
     for (size_t i = LINE_BYTES; i < OUT_ROOM; i++)
         if (bytes[i] != 0)
             say_difference("a byte behind the last line of such an output was changed");
-}
-
-/* Of the cents: energies whose low bits are one, and an output whose low bits have no room. */
-static void try_far_cents(uint8_t *bytes, size_t far)
-{
-    const uint8_t *energies = energies_of(SOUND);
-    uint8_t out[2 * CENTS_BYTES];
-    size_t length = 2 * NUMBER_BYTES;
-
-    hold_number(CENTS, ibisladder_cents(PRICE, bytes, far + NUMBER_BYTES, out, sizeof out),
-                IBISLADDER_REFUSED_LIST);
-    hold_number(CENTS, ibisladder_cents(PRICE, bytes, far, out, sizeof out),
-                IBISLADDER_REFUSED_LIST);
-    hold_number(CENTS, ibisladder_cents(PRICE, energies, length, bytes, far), IBISLADDER_ACCEPTED);
-    hold_number(CENTS, ibisladder_cents(PRICE, energies, length, out, sizeof out),
-                IBISLADDER_ACCEPTED);
-    if (memcmp(bytes, out, sizeof out) != 0)
-        say_difference("an output with a length past 32 bits got other cents");
-    for (size_t i = sizeof out; i < OUT_ROOM; i++)
-        if (bytes[i] != 0)
-            say_difference("a byte behind the last cents of such an output was changed");
 }
 
 /* The medium-power settlement with these parts, where they lie. */
@@ -395,7 +321,7 @@ static void try_far_power(uint8_t *bytes, size_t far)
     struct lent references = {references_of(SOUND), NUMBER_BYTES, 0};
     struct lent far_book = {bytes, far + book.length, 0}, far_list = {bytes, far + list.length, 0};
     struct lent far_references = {bytes, far + references.length, 0};
-    uint8_t out[POWER_LINE_BYTES], totals[TOTALS_BYTES];
+    uint8_t out[LINE_BYTES], totals[TOTALS_BYTES];
 
     hold_number(POWER, power_with(far_book, list, references, out, sizeof out, totals,
                                   sizeof totals), IBISLADDER_REFUSED_BOOK);
@@ -405,12 +331,12 @@ static void try_far_power(uint8_t *bytes, size_t far)
                                   sizeof totals), REFUSED_REFERENCES);
     hold_number(POWER, power_with(book, list, references, bytes, far, totals, sizeof totals),
                 IBISLADDER_ACCEPTED);
-    hold_number(POWER, power_with(book, list, references, out, sizeof out,
-                                  bytes + POWER_LINE_BYTES, far), IBISLADDER_ACCEPTED);
+    hold_number(POWER, power_with(book, list, references, out, sizeof out, bytes + LINE_BYTES,
+                                  far), IBISLADDER_ACCEPTED);
     if (memcmp(bytes, out, sizeof out) != 0
-        || memcmp(bytes + POWER_LINE_BYTES, totals, sizeof totals) != 0)
+        || memcmp(bytes + LINE_BYTES, totals, sizeof totals) != 0)
         say_difference("an output with a length past 32 bits got other numbers");
-    for (size_t i = POWER_LINE_BYTES + TOTALS_BYTES; i < OUT_ROOM; i++)
+    for (size_t i = LINE_BYTES + TOTALS_BYTES; i < OUT_ROOM; i++)
         if (bytes[i] != 0)
             say_difference("a byte behind the totals of such a length was changed");
 }
@@ -423,8 +349,6 @@ static void try_far_lengths_in(void *bytes)
         try_far_length(bytes, (size_t)1 << bits);
         memset(bytes, 0, OUT_ROOM);
         try_far_power(bytes, (size_t)1 << bits);
-        memset(bytes, 0, OUT_ROOM);
-        try_far_cents(bytes, (size_t)1 << bits);
     }
 }
 
@@ -480,7 +404,7 @@ static void try_drawn(void)
     try_call(&check);
     struct trial settle = settle_of(winter, price, lent(list, length));
     settle.book = lent(book, draw_book_length(winter));
-    settle.out = lent(output_of(draw_below(KINDS)), draw_out_length(ENERGIES, length));
+    settle.out = lent(output_of(draw_below(KINDS)), draw_out_length(length));
     if (settle.book.length >= length && draw_once_in(8))
         put_in_book(&settle, &settle.list, book);
     try_call(&settle);
@@ -504,22 +428,12 @@ static void try_drawn_power(void)
     struct trial power = power_of(winter, lent(list, length));
     power.references = lent(references, draw_references_length(length));
     power.book = lent(book, draw_book_length(winter));
-    power.out = lent(output_of(draw_below(KINDS)), draw_out_length(POWER, length));
+    power.out = lent(output_of(draw_below(KINDS)), draw_out_length(length));
     power.totals = lent(output_of(draw_below(KINDS)), draw_totals_length());
     struct lent *part = draw_once_in(2) ? &power.list : &power.references;
     if (power.book.length >= part->length && draw_once_in(8))
         put_in_book(&power, part, book);
     try_call(&power);
-}
-
-static void try_drawn_cents(void)
-{
-    static uint8_t energies[LIST_ROOM];
-    uint32_t price = draw_once_in(16) ? draw_of(PRICES, COUNT(PRICES)) : 1 + draw_below(1000000);
-    size_t length = draw_energies(energies);
-    struct trial cents = cents_of(price, lent(energies, length));
-    cents.out = lent(output_of(draw_below(KINDS)), draw_out_length(CENTS, length));
-    try_call(&cents);
 }
 
 static enum side side_named(const char *name)
@@ -538,14 +452,12 @@ int main(int count, char **words)
     make_material();
     try_lengths(strtoul(words[3], NULL, 10));
     try_long_lists();
-    try_long_rows();
     try_distances();
     try_numbers();
     try_far_lengths();
     for (unsigned long left = strtoul(words[4], NULL, 10); left > 0; left--) {
         try_drawn();
         try_drawn_power();
-        try_drawn_cents();
     }
     print_counts();
     return fflush(stdout) == 0 ? EXIT_SUCCESS : EXIT_FAILURE;

@@ -24,7 +24,6 @@ struct notice {
 
 static uint8_t lists[KINDS][LIST_ROOM], books[KINDS][BOOK_ROOM], outputs[KINDS][OUT_ROOM];
 static uint8_t references[KINDS][REFERENCES_ROOM], power_notices[LIST_ROOM];
-static uint8_t energies[KINDS][LIST_ROOM];
 
 static void put_number(uint8_t *bytes, size_t index, uint32_t number)
 {
@@ -90,27 +89,17 @@ static void put_sound_references(uint8_t *bytes)
         put_number(bytes, i, draw_below(draw_once_in(4) ? HIGHEST_REFERENCE + 1 : 30000));
 }
 
-/* Energies of every magnitude. */
-static void put_sound_energies(uint8_t *bytes)
-{
-    static const uint32_t BOUNDS[] = {1, 400, 1000000, IBISLADDER_HIGHEST_ENERGY};
-    for (size_t i = 0; i < LIST_ROOM / NUMBER_BYTES; i++)
-        put_number(bytes, i, draw_below(draw_of(BOUNDS, COUNT(BOUNDS)) + 1));
-}
-
 void make_material(void)
 {
     for (enum kind kind = 0; kind < KINDS; kind++) {
         make_bytes(lists[kind], LIST_ROOM, kind);
         make_bytes(references[kind], REFERENCES_ROOM, kind);
-        make_bytes(energies[kind], LIST_ROOM, kind);
         make_bytes(books[kind], BOOK_ROOM, kind);
         make_bytes(outputs[kind], OUT_ROOM, kind);
     }
     put_sound_list(lists[SOUND]);
     put_power_list(power_notices);
     put_sound_references(references[SOUND]);
-    put_sound_energies(energies[SOUND]);
     draw_readings(books[SOUND], USUAL_READING);
 }
 
@@ -122,11 +111,6 @@ const uint8_t *list_of(enum kind kind)
 const uint8_t *references_of(enum kind kind)
 {
     return references[kind];
-}
-
-const uint8_t *energies_of(enum kind kind)
-{
-    return energies[kind];
 }
 
 const uint8_t *power_list(void)
@@ -294,22 +278,6 @@ void draw_references(uint8_t *bytes)
     memcpy(bytes, references[draw_once_in(16) ? draw_below(KINDS) : SOUND], REFERENCES_ROOM);
     if (draw_once_in(4))
         put_number(bytes, draw_below(40), draw_of(EDGES, COUNT(EDGES)));
-}
-
-/* Drawn energies. */
-
-size_t draw_energies(uint8_t *bytes)
-{
-    static const uint32_t EDGES[] = {0, 1, IBISLADDER_HIGHEST_ENERGY, IBISLADDER_HIGHEST_ENERGY,
-                                     IBISLADDER_HIGHEST_ENERGY + 1, 0x80000000, 0xFFFFFFFF};
-    size_t count = draw_below(draw_once_in(8) ? 300 : IBISLADDER_MOST_ENERGIES + 1);
-    if (draw_once_in(8))
-        memcpy(bytes, energies[draw_below(KINDS)], LIST_ROOM);
-    else
-        put_sound_energies(bytes);
-    for (uint32_t edges = draw_once_in(2) ? draw_below(4) : 0; edges > 0; edges--)
-        put_number(bytes, draw_below(IBISLADDER_MOST_ENERGIES), draw_of(EDGES, COUNT(EDGES)));
-    return count * NUMBER_BYTES + (draw_once_in(16) ? draw_below(NUMBER_BYTES) : 0);
 }
 
 /* Drawn books. */

@@ -8,8 +8,8 @@
 #include "trial.h"
 
 /* Zeros, ones and noise are any bytes; a sound list stands in every winter under profile 1 as
- * far as its hundredth notice, a sound book has all readings, and no sound reference or energy is
- * too high. */
+ * far as its hundredth notice, a sound book has all readings, and no sound reference is too
+ * high. */
 enum kind { ZEROS, ONES, NOISE, SOUND, KINDS };
 
 /* Must come before the others. */
@@ -17,7 +17,6 @@ void make_material(void);
 
 const uint8_t *list_of(enum kind kind);
 const uint8_t *references_of(enum kind kind);
-const uint8_t *energies_of(enum kind kind);
 const uint8_t *book_of(enum kind kind);
 const uint8_t *output_of(enum kind kind);
 
@@ -33,10 +32,6 @@ size_t draw_power_list(uint8_t *list, uint32_t winter);
 /* Draws all bytes of references. Most are sound, and in some one reference is at the bound or
  * too high. */
 void draw_references(uint8_t *bytes);
-
-/* The same of energies, of which any index may be too high, and gives the length in bytes of a row
- * of them. Most can be priced. */
-size_t draw_energies(uint8_t *bytes);
 
 /* Draws all bytes of a book. Most have readings, some of them with faults. */
 void draw_book(uint8_t *book);

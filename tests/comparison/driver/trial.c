@@ -28,24 +28,19 @@ struct made {
 
 struct outcome {
     uint32_t answer;
-    uint8_t lines[MOST_NOTICES * POWER_LINE_BYTES];
+    uint8_t lines[MOST_NOTICES * LINE_BYTES];
     uint8_t totals[TOTALS_BYTES];
 };
 
 /* The functions, and the lines of those that write some. */
-static const char *const NAMES[FUNCTIONS] = {"check", "energies", "power", "cents"};
-static const char *const LINES[FUNCTIONS] = {"none", "line", "event", "none"};
+static const char *const NAMES[FUNCTIONS] = {"check", "settle", "power"};
+static const char *const LINES[FUNCTIONS] = {"none", "line", "event"};
 
 static enum side side;
 static struct places here, elsewhere;
 static const struct trial *tried;
 static uint32_t last_answer;
 static unsigned long calls, numbers_given[FUNCTIONS][COUNTED], codes_given[FUNCTIONS][COUNTED];
-
-static bool has_book(const struct trial *trial)
-{
-    return trial->function == ENERGIES || trial->function == POWER;
-}
 
 /* What is said of a difference. */
 
@@ -66,11 +61,11 @@ static void say_trial(void)
             side == AT_START ? "before" : "behind");
     fprintf(stderr, "  last answer: %" PRIu32 ",%" PRIu32 "\n", ibisladder_number(last_answer),
             ibisladder_place(last_answer));
-    say_lent(tried->function == CENTS ? "energies" : "list", tried->list);
-    if (has_book(tried))
+    say_lent("list", tried->list);
+    if (tried->function != CHECK) {
         say_lent("book", tried->book);
-    if (tried->function != CHECK)
         say_lent("output", tried->out);
+    }
     if (tried->function == POWER) {
         say_lent("references", tried->references);
         say_lent("totals", tried->totals);
@@ -167,10 +162,8 @@ static void lend_all(struct made *made)
     made->list = places->list.first;
     if (trial->function == CHECK)
         return;
-    lend_output(&places->out, trial->out, moved);
-    if (!has_book(trial))
-        return;
     lend_input(&places->book, trial->book, moved);
+    lend_output(&places->out, trial->out, moved);
     if (trial->list_in_book && !moved)
         made->list = places->book.first + (trial->list.bytes - trial->book.bytes);
     if (trial->function == POWER)
@@ -195,12 +188,9 @@ static void call(void *given)
     size_t list_length = trial->list.length;
     if (trial->function == CHECK)
         made->answer = ibisladder_check(trial->winter, trial->number, made->list, list_length);
-    else if (trial->function == ENERGIES)
-        made->answer = ibisladder_energies(trial->winter, book->first, book->length, made->list,
-                                           list_length, out->first, out->length);
-    else if (trial->function == CENTS)
-        made->answer = ibisladder_cents(trial->number, made->list, list_length, out->first,
-                                        out->length);
+    else if (trial->function == SETTLE)
+        made->answer = ibisladder_settle(trial->winter, book->first, book->length, trial->number,
+                                         made->list, list_length, out->first, out->length);
     else
         made->answer = ibisladder_power(trial->winter, book->first, book->length, made->list,
                                         list_length, made->references, trial->references.length,
@@ -215,43 +205,26 @@ size_t book_length(uint32_t winter)
     return days * IBISLADDER_HOURS * NUMBER_BYTES;
 }
 
-/* The cents have one number for each energy, the others a line for each notice, or none. */
-static size_t line_bytes(enum function function)
-{
-    switch (function) {
-    case ENERGIES: return LINE_BYTES;
-    case POWER: return POWER_LINE_BYTES;
-    case CENTS: return CENTS_BYTES;
-    default: return 0;
-    }
-}
-
-size_t room_for(enum function function, size_t list_length)
-{
-    return list_length / (function == CENTS ? NUMBER_BYTES : NOTICE_BYTES) * line_bytes(function);
-}
-
 static bool is_possible(enum function function, uint32_t number)
 {
     switch (number) {
     case IBISLADDER_ACCEPTED:
-    case IBISLADDER_REFUSED_LIST: return true;
     case IBISLADDER_REFUSED_WINTER:
+    case IBISLADDER_REFUSED_LIST:
     case IBISLADDER_REFUSED_DAY:
     case IBISLADDER_REFUSED_EXCLUDED:
     case IBISLADDER_REFUSED_HOURS:
     case IBISLADDER_REFUSED_NO_BAND:
     case IBISLADDER_REFUSED_ACROSS:
     case IBISLADDER_REFUSED_ORDER:
-    case IBISLADDER_REFUSED_TOTAL: return function != CENTS;
+    case IBISLADDER_REFUSED_TOTAL: return true;
     case IBISLADDER_REFUSED_PROFILE: return function == CHECK;
     case IBISLADDER_REFUSED_WEEKEND:
-    case IBISLADDER_REFUSED_LENGTH: return function == CHECK || function == POWER;
-    case IBISLADDER_REFUSED_BOOK: return function == ENERGIES || function == POWER;
+    case IBISLADDER_REFUSED_LENGTH: return function != SETTLE;
+    case IBISLADDER_REFUSED_BOOK:
     case IBISLADDER_REFUSED_OUTPUT: return function != CHECK;
-    case IBISLADDER_REFUSED_BAND: return function == CHECK || function == ENERGIES;
-    case IBISLADDER_REFUSED_PRICE:
-    case IBISLADDER_REFUSED_ENERGY: return function == CENTS;
+    case IBISLADDER_REFUSED_BAND: return function != POWER;
+    case IBISLADDER_REFUSED_PRICE: return function == SETTLE;
     case REFUSED_REFERENCES:
     case REFUSED_REFERENCE: return function == POWER;
     default: return false;
@@ -267,20 +240,15 @@ static uint64_t number_at(const uint8_t *bytes, size_t length)
     return number;
 }
 
-/* The index of the first number above a bound, or else how many there are. */
-static size_t first_above(struct lent lent, uint64_t highest)
-{
-    size_t count = lent.length / NUMBER_BYTES, i = 0;
-    while (i < count && number_at(lent.bytes + NUMBER_BYTES * i, NUMBER_BYTES) <= highest)
-        i++;
-    return i;
-}
-
-/* The same of the references or of the energies. */
+/* The index of the first reference that is too high, or else how many there are. */
 static size_t first_high(const struct trial *trial)
 {
-    return trial->function == CENTS ? first_above(trial->list, IBISLADDER_HIGHEST_ENERGY)
-                                    : first_above(trial->references, HIGHEST_REFERENCE);
+    size_t count = trial->references.length / NUMBER_BYTES, i = 0;
+    while (i < count
+           && number_at(trial->references.bytes + NUMBER_BYTES * i, NUMBER_BYTES)
+                  <= HIGHEST_REFERENCE)
+        i++;
+    return i;
 }
 
 /* The rest of the medium-power settlement's refusals before the notices. */
@@ -294,24 +262,9 @@ static uint32_t refusal_by_references(const struct trial *trial)
     return first_high(trial) < notices ? REFUSED_REFERENCE : 0;
 }
 
-/* The refusal of energies that are to be priced, which nothing else decides; 0 for none. */
-static uint32_t refusal_of_energies(const struct trial *trial)
-{
-    size_t energies = trial->list.length / NUMBER_BYTES;
-    if (trial->number < 1 || trial->number > IBISLADDER_HIGHEST_PRICE)
-        return IBISLADDER_REFUSED_PRICE;
-    if (trial->list.length % NUMBER_BYTES != 0 || energies > IBISLADDER_MOST_ENERGIES)
-        return IBISLADDER_REFUSED_LIST;
-    if (trial->out.length < energies * CENTS_BYTES)
-        return IBISLADDER_REFUSED_OUTPUT;
-    return first_high(trial) < energies ? IBISLADDER_REFUSED_ENERGY : 0;
-}
-
 /* The number that follows from numbers, lengths and references; 0 where the notices decide. */
 static uint32_t refusal_before_notices(const struct trial *trial)
 {
-    if (trial->function == CENTS)
-        return refusal_of_energies(trial);
     size_t notices = trial->list.length / NOTICE_BYTES;
     bool whole = trial->list.length % NOTICE_BYTES == 0 && notices <= MOST_NOTICES;
     if (trial->winter < IBISLADDER_FIRST_WINTER || trial->winter > IBISLADDER_LAST_WINTER)
@@ -323,9 +276,12 @@ static uint32_t refusal_before_notices(const struct trial *trial)
     }
     if (trial->book.length != book_length(trial->winter))
         return IBISLADDER_REFUSED_BOOK;
+    if (trial->function == SETTLE
+        && (trial->number < 1 || trial->number > IBISLADDER_HIGHEST_PRICE))
+        return IBISLADDER_REFUSED_PRICE;
     if (!whole)
         return IBISLADDER_REFUSED_LIST;
-    if (trial->out.length < room_for(trial->function, trial->list.length))
+    if (trial->out.length < notices * LINE_BYTES)
         return IBISLADDER_REFUSED_OUTPUT;
     return trial->function == POWER ? refusal_by_references(trial) : 0;
 }
@@ -345,8 +301,8 @@ static void judge_answer(const struct trial *trial, uint32_t answer)
     else
         hold(number == 0 || is_of_notices(number),
              "it is refused by its numbers, lengths or references, which are right");
-    if (number == REFUSED_REFERENCE || number == IBISLADDER_REFUSED_ENERGY)
-        hold(place == first_high(trial), "the place is not the first number that is too high");
+    if (number == REFUSED_REFERENCE)
+        hold(place == first_high(trial), "the place is not the first reference that is too high");
     else if (is_of_notices(number))
         hold(place < trial->list.length / NOTICE_BYTES, "the place is no notice");
     else
@@ -364,48 +320,26 @@ static bool is_fault(const struct trial *trial, uint64_t code, uint64_t place)
 }
 
 /* 20 does not come up: November has as many reference days, and the medium-power settlement
- * asks for none. Its lines have a fourth number, the reduction. */
+ * asks for none. The last number of a line is its cents, or its reduction. */
 static void judge_line(const struct trial *trial, const uint8_t *line)
 {
     uint64_t code = number_at(line, 8), place = number_at(line + 8, 8);
-    uint64_t energy = number_at(line + 16, 8);
-    uint64_t reduction = trial->function == POWER ? number_at(line + 24, 8) : 0;
+    uint64_t energy = number_at(line + 16, 8), last = number_at(line + 24, 8);
     codes_given[trial->function][code < COUNTED ? code : COUNTED - 1]++;
-    if (trial->function == ENERGIES)
-        hold(energy <= IBISLADDER_HIGHEST_ENERGY, "a line has more energy than can be");
     if (code == IBISLADDER_EVENT_SETTLED) {
         hold(place == 0, "a settled line has a place");
         return;
     }
     hold(code == IBISLADDER_EVENT_MISSING || code == IBISLADDER_EVENT_TOO_LARGE, "no such code");
     hold(is_fault(trial, code, place), "the reading at the place of a line has no such fault");
-    hold(energy == 0 && reduction == 0, "a line that is not settled has energy or a reduction");
-}
-
-/* Whole cents of an energy at a price: the rest is rounded, and a half goes up. */
-static uint64_t rounded_worth(uint64_t price, uint64_t energy)
-{
-    uint64_t parts = price * energy;
-    return parts / 18000000 + (parts % 18000000 >= 9000000);
-}
-
-/* The cents of energies are added up from the first: up to each they are the rounded worth of all
- * energy so far. */
-static void judge_cents(const struct trial *trial, const uint8_t *cents, size_t written)
-{
-    uint64_t energy = 0, sum = 0;
-    for (size_t i = 0; i < written / CENTS_BYTES; i++) {
-        energy += number_at(trial->list.bytes + NUMBER_BYTES * i, NUMBER_BYTES);
-        sum += number_at(cents + CENTS_BYTES * i, CENTS_BYTES);
-        hold(sum == rounded_worth(trial->number, energy), "the cents are not the worth so far");
-    }
+    hold(energy == 0 && last == 0, "a line that is not settled has energy, cents or a reduction");
 }
 
 /* Sum and count are those of the lines; the credit is compared elsewhere, and has a bound here. */
 static void judge_totals(const uint8_t *lines, size_t written, const uint8_t *totals)
 {
     uint64_t sum = 0, count = 0, credit = number_at(totals + 16, 8);
-    for (size_t i = 0; i < written; i += POWER_LINE_BYTES) {
+    for (size_t i = 0; i < written; i += LINE_BYTES) {
         sum += number_at(lines + i + 24, 8);
         count += number_at(lines + i, 8) == IBISLADDER_EVENT_SETTLED;
     }
@@ -426,24 +360,20 @@ void count_answer(enum function function, uint32_t answer)
 
 static size_t lines_written(const struct trial *trial, const struct outcome *outcome)
 {
-    return outcome->answer == 0 ? room_for(trial->function, trial->list.length) : 0;
+    return outcome->answer == 0 ? trial->list.length / NOTICE_BYTES * LINE_BYTES : 0;
 }
 
 static void take_lines(const struct trial *trial, const struct places *places,
                        struct outcome *outcome)
 {
     size_t written = lines_written(trial, outcome);
-    hold(!has_book(trial) || !part_changed(&places->book),
-         "the book, or a byte beside it, was changed");
+    hold(!part_changed(&places->book), "the book, or a byte beside it, was changed");
     hold(!part_changed_beside(&places->out, written),
          written == 0 ? "a byte of an output without lines, or beside it, was changed"
                       : "a byte behind the last line, or beside the output, was changed");
     memcpy(outcome->lines, places->out.first, written);
-    if (trial->function == CENTS)
-        judge_cents(trial, outcome->lines, written);
-    else
-        for (size_t i = 0; i < written; i += line_bytes(trial->function))
-            judge_line(trial, outcome->lines + i);
+    for (size_t i = 0; i < written; i += LINE_BYTES)
+        judge_line(trial, outcome->lines + i);
 }
 
 static void take_totals(const struct trial *trial, const struct places *places,
@@ -503,29 +433,6 @@ static void hold_to_check(const struct trial *trial, uint32_t answer)
     hold(checked.answer == answer, "the settlement answers its notices otherwise");
 }
 
-/* The energies of an accepted list can be priced: as a host does it, they are lent again in 32
- * bits, which hold them, and only the price can be wrong. */
-static void hold_priced(const struct trial *trial, const struct outcome *outcome)
-{
-    static uint8_t energies[MOST_NOTICES * NUMBER_BYTES];
-    static struct outcome priced;
-    size_t notices = trial->list.length / NOTICE_BYTES;
-    for (size_t i = 0; i < notices; i++) {
-        const uint8_t *energy = outcome->lines + LINE_BYTES * i + 16;
-        hold(number_at(energy + NUMBER_BYTES, 4) == 0, "an energy has more than 32 bits");
-        memcpy(energies + NUMBER_BYTES * i, energy, NUMBER_BYTES);
-    }
-    struct trial cents = {.function = CENTS,
-                          .number = trial->number,
-                          .list = {energies, notices * NUMBER_BYTES, trial->list.distance},
-                          .out = {trial->out.bytes, notices * CENTS_BYTES, trial->out.distance}};
-    tried = &cents;
-    make_call(&cents, &here, &priced);
-    tried = trial;
-    hold(priced.answer == 0 || ibisladder_number(priced.answer) == IBISLADDER_REFUSED_PRICE,
-         "the energies of an accepted list are not priced");
-}
-
 void try_call(const struct trial *trial)
 {
     static struct outcome first, again, moved;
@@ -535,10 +442,8 @@ void try_call(const struct trial *trial)
     hold_same(trial, &first, &again);
     make_call(trial, &elsewhere, &moved);
     hold_same(trial, &first, &moved);
-    if (has_book(trial) && refusal_before_notices(trial) == 0)
+    if (trial->function != CHECK && refusal_before_notices(trial) == 0)
         hold_to_check(trial, first.answer);
-    if (trial->function == ENERGIES && first.answer == 0)
-        hold_priced(trial, &first);
     tried = NULL;
 }
 

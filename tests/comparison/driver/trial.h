@@ -3,8 +3,7 @@
  * Whatever is lent, a call must touch nothing beside it, leave list, references and book as they
  * were, and give an answer that the rules allow. A refusal must leave the outputs as they were,
  * an accepted call all that is behind the last line or total. The same call must give the same
- * answer, lines and totals once more, in other places, and over other outputs. Cents are worked
- * out here too, and the energies of an accepted list are priced as a host does it. The first
+ * answer, lines and totals once more, in other places, and over other outputs. The first
  * difference is said, and ends the program with exit status 1. */
 #ifndef TRIAL_H
 #define TRIAL_H
@@ -20,8 +19,6 @@ enum {
     NUMBER_BYTES = IBISLADDER_NUMBER_BYTES,
     NOTICE_BYTES = IBISLADDER_NOTICE_NUMBERS * IBISLADDER_NUMBER_BYTES,
     LINE_BYTES = IBISLADDER_LINE_NUMBERS * IBISLADDER_OUT_NUMBER_BYTES,
-    POWER_LINE_BYTES = IBISLADDER_POWER_LINE_NUMBERS * IBISLADDER_OUT_NUMBER_BYTES,
-    CENTS_BYTES = IBISLADDER_OUT_NUMBER_BYTES,
     MOST_NOTICES = IBISLADDER_MOST_NOTICES,
     LONGEST_BOOK = IBISLADDER_DAYS_LEAP * IBISLADDER_HOURS * NUMBER_BYTES
 };
@@ -45,7 +42,7 @@ enum {
     FARTHEST = 7
 };
 
-enum function { CHECK, ENERGIES, POWER, CENTS, FUNCTIONS };
+enum function { CHECK, SETTLE, POWER, FUNCTIONS };
 
 /* Bytes to lend a copy of, and how far from the guard page. */
 struct lent {
@@ -55,12 +52,12 @@ struct lent {
 };
 
 /* The list check is lent the list alone, and only the medium-power settlement references and
- * totals. The cents have their energies for a list, and no book. A list or references inside the
- * book are lent there at first, and as bytes of their own elsewhere. */
+ * totals. A list or references inside the book are lent there at first, and as bytes of their
+ * own elsewhere. */
 struct trial {
     enum function function;
     uint32_t winter;
-    uint32_t number; /* the profile, or the price: energies are priced at it afterwards */
+    uint32_t number; /* the profile, or the price */
     struct lent list, references, book, out, totals;
     bool list_in_book; /* list.bytes is a part of book.bytes */
     bool references_in_book;
@@ -73,9 +70,6 @@ void try_call(const struct trial *trial);
 
 /* The length of a winter's book in bytes, whether the winter is a right one or not. */
 size_t book_length(uint32_t winter);
-
-/* The bytes that a function writes to its output for a list, or for energies, of so many bytes. */
-size_t room_for(enum function function, size_t list_length);
 
 /* Counts an answer to a call that was made beside the trials. */
 void count_answer(enum function function, uint32_t answer);

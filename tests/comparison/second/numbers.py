@@ -17,16 +17,12 @@ LIST_CHECK = {
 # docs/DECISIONS.md.
 EVENT = {"refusal": (1, 2, 10, 13, 26, 27), "code": (0, 20, 21, 22)}
 
-# The first call for a winter: its own rules, and those of the list check under profile 1. It is
-# given no price, so 3 is never given. November always has five days that serve, so no line of an
-# accepted list has code 20.
-ENERGIES = {
-    "energies": (0, 1, 2, 4, 6, 10, 11, 13, 26, 27, 15, 16, 18),
+# Its own rules, and those of the list check under profile 1. November always has five days
+# that serve, so no line of an accepted list has code 20.
+SETTLEMENT = {
+    "settlement": (0, 1, 2, 3, 4, 6, 10, 11, 13, 26, 27, 15, 16, 18),
     "line": (0, 21, 22),
 }
-
-# The second, which looks at no notice.
-CENTS = {"cents": (0, 3, 4, 6, 7)}
 
 # The medium-power settlement's own rules, and those of the list check under profile 2. It looks at
 # no other day, so no line has code 20.
@@ -35,8 +31,8 @@ POWER = {
     "line": (0, 21, 22),
 }
 
-# A text's book always has the right length, its outputs the room they need, and the energies that
-# are priced are those of its events, so 2, 6 and 7 are never given.
+# A text's book always has the right length and its output the room it needs, so 2 and 6 are
+# never given.
 TEXT = {
     "text": (0, 1, 3, 4, 10, 11, 13, 26, 27, 15, 16, 18, 30, 31, 32),
     "line": (0, 21, 22),
@@ -45,7 +41,7 @@ TEXT = {
 CODES = EVENT["code"]
 REFUSALS = {
     number
-    for calls in (LIST_CHECK, EVENT, ENERGIES, CENTS, POWER, TEXT)
+    for calls in (LIST_CHECK, EVENT, SETTLEMENT, POWER, TEXT)
     for call, numbers in calls.items()
     for number in numbers
     if call not in ("code", "line") and number > 0

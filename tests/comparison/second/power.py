@@ -16,9 +16,6 @@ PROFILE = 2
 
 HIGHEST_REFERENCE = 10_000_000
 
-# The output's numbers for a notice.
-LINE_NUMBERS = 4
-
 # The numbers of the totals: the sum of the reductions, the settled events, the cents.
 TOTALS_NUMBERS = 3
 
@@ -79,8 +76,7 @@ class Settlement(NamedTuple):
 
 def short_output(call):
     """Some line has no room, or some total."""
-    lines = len(call.numbers) // 3
-    return call.room < LINE_NUMBERS * lines or call.totals_room < TOTALS_NUMBERS
+    return settlements.short_output(call) or call.totals_room < TOTALS_NUMBERS
 
 
 def wrong_references(call):

@@ -1,10 +1,7 @@
-"""The second program's settlement of a winter: section 7 of docs/RULES.md, one walk at one price.
+"""The second program's settlement: sections 7 and 9 of docs/RULES.md.
 
 What a line is worth is a fraction of a cent, and a rounding is a whole number by the floor
-of a fraction. A text is settled so. A host in C has two calls for it, which are in two_calls.py and
-have orders of refusals of their own; made in a row they come to this settlement (rule 7.12), and
-the tests hold the library to both. At the boundary the lent slices are bytes and the answer is
-one number.
+of a fraction. At the boundary the lent slices are bytes and the answer is one number.
 """
 
 import struct
@@ -19,6 +16,9 @@ from second import energies, notices, winters
 PRICES = range(1, 1_000_001)
 THOUSANDTHS_OF_A_CENT = 1_000
 WH_OF_A_KWH = 1_000
+
+# The output's numbers for a notice.
+LINE_NUMBERS = 4
 
 # Bytes of a number lent to a call, and of a number of the lent output: rule 9.2.
 LENT_BYTES = 4
@@ -35,11 +35,12 @@ class Line(NamedTuple):
 
 class Call(NamedTuple):
     """A settlement asked for. Book and numbers are None where bytes were lent that are no whole
-    numbers."""
+    numbers. The room is how many numbers the lent output has."""
     winter: int
     book: tuple
     price: int
     numbers: tuple
+    room: int
 
 
 class Settlement(NamedTuple):
@@ -76,12 +77,18 @@ def wrong_list(call):
     return notices.wrong_length(call.winter, 1, call.numbers)
 
 
+def short_output(call):
+    """Some line has no room."""
+    return call.room < LINE_NUMBERS * (len(call.numbers) // 3)
+
+
 # What comes first decides; the notices are looked at behind these.
 CALL_RULES = (
     (1, wrong_winter),
     (2, wrong_book),
     (3, wrong_price),
     (4, wrong_list),
+    (6, short_output),
 )
 
 
@@ -120,17 +127,16 @@ def readings_in(book, hours):
     return {pair: book[energies.place_of(*pair)] for pair in hours}
 
 
-@lru_cache(maxsize=8)
 def event_answers(winter, book, listed):
     """What the energy's rules say of each notice of an accepted list."""
     with_events = energies.days_with_events(listed)
-    readings_of = partial(readings_in, book)
-    return [energies.event_answer(winter, notice, with_events, readings_of) for notice in listed]
+    for notice in listed:
+        yield energies.event_answer(winter, notice, with_events, partial(readings_in, book))
 
 
 def settled(winter, book, price, listed):
     """The settlement of an accepted list."""
-    answers = event_answers(winter, book, tuple(listed))
+    answers = list(event_answers(winter, book, listed))
     amounts = [energies.energy_of(answer) for answer in answers]
     cents = line_cents(amounts, price)
     lines = tuple(
@@ -163,8 +169,8 @@ def lent_numbers(lent):
 
 
 def written(lines):
-    """Lines as bytes of the output, each of however many numbers."""
-    return b"".join(struct.pack(f"<{len(line)}Q", *line) for line in lines)
+    """The lines as bytes of the output."""
+    return b"".join(struct.pack("<4Q", *line) for line in lines)
 
 
 def one_number(number, place):
@@ -176,3 +182,13 @@ def check_call(winter, profile, listed):
     """The list check from C: its answer to a list of bytes."""
     number, place, _ = notices.list_check(winter, profile, lent_numbers(listed))
     return one_number(number, place)
+
+
+def settle_call(winter, book, price, listed, output):
+    """The settlement from C: its answer to a book and a list of bytes, and the bytes of the
+    lent output after the call. Behind the last line all stays, whole numbers or not."""
+    room = len(output) // OUTPUT_BYTES
+    call = Call(winter, lent_numbers(book), price, lent_numbers(listed), room)
+    given = settlement(call)
+    lines = written(given.lines)
+    return one_number(given.number, given.place), lines + output[len(lines):]

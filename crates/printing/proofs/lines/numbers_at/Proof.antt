@@ -10,38 +10,41 @@ notice-at-requires c κs = search rules
 mul_at : tie.Need-overflow-mul-at
 mul_at c = search rules
 
+cast-t6 : tie.Need-overflow-cast-t6
+cast-t6 c = search rules
+
 cast-t7 : tie.Need-overflow-cast-t7
 cast-t7 c = search rules
 
 cast-t8 : tie.Need-overflow-cast-t8
 cast-t8 c = search rules
 
-cast-t9 : tie.Need-overflow-cast-t9
-cast-t9 c = search rules
+mul-t9 : tie.Need-overflow-mul-t9
+mul-t9 c = search rules
 
-mul-t10 : tie.Need-overflow-mul-t10
-mul-t10 c = search rules
+shared-slice-read-t11 : tie.Need-shared-slice-read-t11
+shared-slice-read-t11 c = search rules
 
-shared-slice-read-t12 : tie.Need-shared-slice-read-t12
-shared-slice-read-t12 c = search rules
+add-t12 : tie.Need-overflow-add-t12
+add-t12 c = search rules
 
-add-t13 : tie.Need-overflow-add-t13
-add-t13 c = search rules
+mul-t13 : tie.Need-overflow-mul-t13
+mul-t13 c = search rules
 
-mul-t14 : tie.Need-overflow-mul-t14
-mul-t14 c = search rules
+shared-slice-read-t15 : tie.Need-shared-slice-read-t15
+shared-slice-read-t15 c = search rules
 
-shared-slice-read-t16 : tie.Need-shared-slice-read-t16
-shared-slice-read-t16 c = search rules
+add-t16 : tie.Need-overflow-add-t16
+add-t16 c = search rules
 
-add-t17 : tie.Need-overflow-add-t17
-add-t17 c = search rules
+mul-t17 : tie.Need-overflow-mul-t17
+mul-t17 c = search rules
 
-mul-t18 : tie.Need-overflow-mul-t18
-mul-t18 c = search rules
+shared-slice-read-t19 : tie.Need-shared-slice-read-t19
+shared-slice-read-t19 c = search rules
 
-shared-slice-read-t20 : tie.Need-shared-slice-read-t20
-shared-slice-read-t20 c = search rules
+add-t20 : tie.Need-overflow-add-t20
+add-t20 c = search rules
 
 mul-t21 : tie.Need-overflow-mul-t21
 mul-t21 c = search rules
@@ -61,17 +64,18 @@ numbers_at_spec =
     (tie.spec
     notice-at-requires
     mul_at
+    cast-t6
     cast-t7
     cast-t8
-    cast-t9
-    mul-t10
-    shared-slice-read-t12
-    add-t13
-    mul-t14
-    shared-slice-read-t16
-    add-t17
-    mul-t18
-    shared-slice-read-t20
+    mul-t9
+    shared-slice-read-t11
+    add-t12
+    mul-t13
+    shared-slice-read-t15
+    add-t16
+    mul-t17
+    shared-slice-read-t19
+    add-t20
     mul-t21
     shared-slice-read-t23
     returns)

@@ -16,26 +16,26 @@ use Rattle.printing.proofs.lines.put_lines.Statement.{statement}
 use Rattle.printing.proofs.lines.put_lines.Tie as tie
 
 -- a turn: one line more
-lines_next : (l lines cents : List ℕ) (k : ℕ) {before now after : List ℕ} {i p q : ℕ} → Put before i (bytes_of_lines (notice_lines l lines cents k)) p now
-    → Put now p (line_bytes (notice_line l lines cents k)) q after
-    → Put before i (bytes_of_lines (notice_lines l lines cents (k + 1))) q after
-lines_next l lines cents k a b =
-    rw (add-one k, rows_more (λ (i : ℕ). notice_line l lines cents i ∷ []) k)
-    (put_both (notice_lines l lines cents k) (notice_line l lines cents k ∷ []) a (put_last _ b))
+lines_next : (l out : List ℕ) (k : ℕ) {before now after : List ℕ} {i p q : ℕ} → Put before i (bytes_of_lines (notice_lines l out k)) p now
+    → Put now p (line_bytes (notice_line l out k)) q after
+    → Put before i (bytes_of_lines (notice_lines l out (k + 1))) q after
+lines_next l out k a b =
+    rw (add-one k, rows_more (λ (i : ℕ). notice_line l out i ∷ []) k)
+    (put_both (notice_lines l out k) (notice_line l out k ∷ []) a (put_last _ b))
 
 -- before the first turn
-lines_none : (l lines cents before : List ℕ) (i : ℕ) → Put before i (bytes_of_lines (notice_lines l lines cents 0)) i before
-lines_none l lines cents before i = rw (rows_none (λ (k : ℕ). notice_line l lines cents k ∷ [])) (put_none before i)
+lines_none : (l out before : List ℕ) (i : ℕ) → Put before i (bytes_of_lines (notice_lines l out 0)) i before
+lines_none l out before i = rw (rows_none (λ (k : ℕ). notice_line l out k ∷ [])) (put_none before i)
 
 abbrev invariant-loop : tie.invariant-loop
-invariant-loop out₀ at list lines cents n next₀ k₀ out next k =
-    (k ≤ n) × (next ≤ at + 152 * k) × (length out ≡ length out₀) × Put out₀ at (bytes_of_lines (notice_lines list lines cents k)) next out
+invariant-loop out₀ at list lines n next₀ k₀ out next k =
+    (k ≤ n) × (next ≤ at + 152 * k) × (length out ≡ length out₀) × Put out₀ at (bytes_of_lines (notice_lines list lines k)) next out
 
 abbrev decreases-loop : tie.decreases-loop
-decreases-loop out₀ at list lines cents n next₀ k₀ out next k = n - k
+decreases-loop out₀ at list lines n next₀ k₀ out next k = n - k
 
 loop-holds : tie.Need-loop-init invariant-loop decreases-loop
-loop-holds c = (omega arith, omega arith, refl, lines_none _ _ _ _ _)
+loop-holds c = (omega arith, omega arith, refl, lines_none _ _ _ _)
 
 put-notice-requires : tie.Need-put-notice-requires invariant-loop decreases-loop
 put-notice-requires c κs = search rules
@@ -51,7 +51,7 @@ loop-again c =
     let turn = c.before.before in
     let loop = turn.before.before.before.loop in
     let put = turn.put-notice.ensures.0 in
-    (omega arith, omega arith, put_length put ∙ loop.invariant.2, lines_next _ _ _ loop.k loop.invariant.3 put)
+    (omega arith, omega arith, put_length put ∙ loop.invariant.2, lines_next _ _ loop.k loop.invariant.3 put)
 
 same_length : tie.Need-same-length invariant-loop decreases-loop
 same_length c = search rules
@@ -59,7 +59,7 @@ same_length c = search rules
 returns : tie.Need-returns invariant-loop decreases-loop
 returns c =
     let loop = c.before in
-    let start = loop.before.before.before.before.before in
+    let start = loop.before.before.before.before in
     let all : loop.loop.k ≡ start.args.n = omega arith in
     (rw (← all) loop.loop.invariant.3, omega arith)
 

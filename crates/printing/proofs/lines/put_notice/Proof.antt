@@ -16,11 +16,11 @@ use Rattle.printing.proofs.lines.put_notice.Statement.{statement}
 use Rattle.printing.proofs.lines.put_notice.Tie as tie
 
 -- the line of the notice's numbers
-put_line_of : (l lines cents : List ℕ) (k : ℕ) {before after numbers : List ℕ} {at next : ℕ} → numbers ≡ numbers_at l lines cents k
+put_line_of : (l lines : List ℕ) (k : ℕ) {before after numbers : List ℕ} {at next : ℕ} → numbers ≡ numbers_at l lines k
     → Put before at (line_put (length before) at (bytes_of "line=") numbers) next after → at + line_room ≤ length before
-    → Put before at (line_bytes (notice_line l lines cents k)) next after
+    → Put before at (line_bytes (notice_line l lines k)) next after
 unfolding notice_line
-put_line_of l lines cents k is put room = whole_line (bytes_of "line=") (numbers_at l lines cents k) (rw is at put) (omega arith)
+put_line_of l lines k is put room = whole_line (bytes_of "line=") (numbers_at l lines k) (rw is at put) (omega arith)
 
 numbers-at-requires : tie.Need-numbers-at-requires
 numbers-at-requires c κs = search rules
@@ -41,10 +41,10 @@ returns : tie.Need-returns
 returns c =
     let put = c.before.before in
     let numbers = put.before.before.before.before in
-    let start = numbers.before.before.before.before.before in
+    let start = numbers.before.before.before.before in
     let is = numbers.numbers-at.ensures in
     let seven = ap length is in
-    (put_line_of _ _ _ start.args.k is put.put-line.ensures.0 start.requires.2, omega (arith, put.put-line.ensures.1, seven))
+    (put_line_of _ _ start.args.k is put.put-line.ensures.0 start.requires.1, omega (arith, put.put-line.ensures.1, seven))
 
 pub put_notice_spec : {M : Type 1} → statement M
 put_notice_spec =

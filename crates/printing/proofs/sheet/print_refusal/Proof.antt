@@ -15,7 +15,7 @@ returns c = printed_nothing _ _ (found c.before.cannot-print.ensures c.if1.true)
 
 put-refusal-requires : tie.Need-put-refusal-requires
 put-refusal-requires c κs =
-    omega (arith, (has_room 0 0 0 _ (found c.before.before.cannot-print.ensures c.before.if1.false)).2)
+    omega (arith, (has_room 0 0 _ (found c.before.before.cannot-print.ensures c.before.if1.false)).1)
 
 same_length : tie.Need-same-length
 same_length c = search rules
@@ -25,7 +25,7 @@ returns-2 c =
     let t = c.before.before in
     let i = t.before.before in
     let cannot = found i.before.cannot-print.ensures i.if1.false in
-    printed_front cannot t.put-refusal.ensures.0 (omega (arith, (has_room 0 0 0 _ cannot).2))
+    printed_front cannot t.put-refusal.ensures.0 (omega (arith, (has_room 0 0 _ cannot).1))
 
 pub print_refusal_spec : {M : Type 1} → statement M
 print_refusal_spec =

@@ -20,7 +20,7 @@ returns c =
 put-statement-requires : tie.Need-put-statement-requires
 put-statement-requires c κs =
     let asked = c.before.before in
-    has_room _ _ _ _ (found (rw asked.before.count-in.ensures at asked.cannot-print.ensures) c.before.if1.false)
+    has_room _ _ _ (found (rw asked.before.count-in.ensures at asked.cannot-print.ensures) c.before.if1.false)
 
 same_length : tie.Need-same-length
 same_length c = search rules

@@ -69,22 +69,9 @@ array-borrow-prefix-lines c = search rules
 slice-aggregate-print-settled-2 : tie.Need-slice-aggregate-print-settled-2
 slice-aggregate-print-settled-2 c = simp length-take (omega arith)
 
-array-borrow-prefix-energies : tie.Need-array-borrow-prefix-energies
-array-borrow-prefix-energies c = search rules
-
-slice-aggregate-print-settled-3 : tie.Need-slice-aggregate-print-settled-3
-slice-aggregate-print-settled-3 c = simp length-take (omega arith)
-
-array-borrow-prefix-cents : tie.Need-array-borrow-prefix-cents
-array-borrow-prefix-cents c = search rules
-
-slice-aggregate-print-settled-4 : tie.Need-slice-aggregate-print-settled-4
-slice-aggregate-print-settled-4 c = simp length-take (omega arith)
-
 print-settled-requires : tie.Need-print-settled-requires
 print-settled-requires c κs =
-    let rooms = c.before.before.before in
-    let right = rooms.before.before.before in
+    let right = c.before.before.before.before in
     let asked = right.before in
     let start = asked.before.before.before.before.before in
     record {
@@ -92,14 +79,12 @@ print-settled-requires c κs =
           record {
             winter = (winter_range _).0 start.requires.winter;
             book = start.requires.days;
+            price = right_price _ (found asked.bad-price.ensures right.if1.false);
             whole = simp length-take (omega arith);
             few = simp length-take (omega arith);
             room_enough = simp length-take (omega arith);
           };
-      price = right_price _ (found asked.bad-price.ensures right.if1.false);
       just = simp length-take (omega arith);
-      energies_just = simp length-take (omega arith);
-      cents_just = simp length-take (omega arith);
       room = start.requires.room;
     }
 
@@ -108,9 +93,8 @@ same-length-3 c = search rules
 
 returns-3 : tie.Need-returns-3
 returns-3 c =
-    let printed = c.before.before.before.before.before in
-    let rooms = printed.before.before.before.before in
-    let few = rooms.before.before in
+    let printed = c.before.before.before in
+    let few = printed.before.before.before.before in
     let asked = few.before.before in
     let start = asked.before.before.before.before.before in
     let shape = start.args.shape in
@@ -138,10 +122,6 @@ print_notices_spec =
     mul-lines
     array-borrow-prefix-lines
     slice-aggregate-print-settled-2
-    array-borrow-prefix-energies
-    slice-aggregate-print-settled-3
-    array-borrow-prefix-cents
-    slice-aggregate-print-settled-4
     print-settled-requires
     same-length-3
     returns-3)

@@ -15,7 +15,7 @@ same_length c = search rules
 returns : tie.Need-returns
 returns c =
     let start = c.before.before.before.before.before in
-    prints _ start.args.out.now _ _ 0 0 0 (omega arith) (omega arith) (omega arith) start.requires c.before.before.print-refusal.ensures
+    prints _ start.args.out.now _ _ 0 0 (omega arith) (omega arith) start.requires c.before.before.print-refusal.ensures
 
 pub refuse_spec : {M : Type 1} → statement M
 refuse_spec = tie.close (tie.spec print-refusal-requires same_length returns)

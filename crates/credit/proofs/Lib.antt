@@ -1,0 +1,7 @@
+pub mod CallGuards
+pub mod Demands
+pub mod Exact
+pub mod LineLaws
+pub mod RefusalLaws
+pub mod SettlementLaws
+pub mod WayLaws
