@@ -1,5 +1,7 @@
 // What a book is: its length, the place of an hour, what a value is, a day's part, the first fault and the sum of a run of values.
 // Every call takes any numbers.
+#![tactic(auto)]
+
 mod lengths;
 mod parts;
 mod places;

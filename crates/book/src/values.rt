@@ -9,7 +9,7 @@ pub const MISSING_MARK: u32 = 4_294_967_295;
 const LARGEST_READING: u32 = 10_000_000;
 
 // What is wrong with a needed reading, and where.
-#[derive(Drop)]
+#[derive(Clone, Copy)]
 pub enum Fault {
     Clean,
     Missing(u32),

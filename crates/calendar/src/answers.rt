@@ -2,7 +2,7 @@
 
 // A winter's own facts, by which all questions on its days go: N, the first day of December, the weekday of day 0, 0 for Sunday, and
 // Easter Sunday as a book day, which may lie past the book.
-#[derive(Drop)]
+#[derive(Clone, Copy)]
 pub struct Winter {
     pub days: u32,
     pub december: u32,
@@ -11,21 +11,21 @@ pub struct Winter {
 }
 
 // The winter of a year, if it is one.
-#[derive(Drop)]
+#[derive(Clone, Copy)]
 pub enum Known {
     Is(Winter),
     NoWinter,
 }
 
 // Easter Sunday of a year: month and day of the month.
-#[derive(Drop)]
+#[derive(Clone, Copy)]
 pub enum Sunday {
     On(u32, u32),
     NoYear,
 }
 
 // What kind of day a book day is.
-#[derive(Drop)]
+#[derive(Clone, Copy)]
 pub struct Kind {
     pub period: bool,
     pub weekend: bool,
@@ -33,7 +33,7 @@ pub struct Kind {
 }
 
 // The kind of a day, if the book has it.
-#[derive(Drop)]
+#[derive(Clone, Copy)]
 pub enum DayKind {
     Is(Kind),
     NoWinter,
@@ -41,7 +41,7 @@ pub enum DayKind {
 }
 
 // The Sunday on which the clocks change, as a book day.
-#[derive(Drop)]
+#[derive(Clone, Copy)]
 pub enum Change {
     On(u32),
     NoWinter,

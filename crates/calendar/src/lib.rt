@@ -1,5 +1,7 @@
 // The winter calendar: a winter's own facts, the kind of each of its days, weekdays, Easter, and the Sundays on which the clocks change.
 // Every call takes any numbers. A winter outside 2010..2098 is refused where its facts are asked for, a day outside its book after that.
+#![tactic(auto)]
+
 mod answers;
 mod clocks;
 mod easter;

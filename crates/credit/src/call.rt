@@ -13,7 +13,7 @@ use calendar::{Known, Winter};
 use notices::Profile;
 
 // What a settlement answers: the refusal number and place, 0 if it is accepted, and the totals, 0 if it is refused.
-#[derive(Drop)]
+#[derive(Clone, Copy)]
 pub struct Settlement {
     pub number: u32,
     pub place: u32,

@@ -9,7 +9,7 @@ use calendar::{DayKind, Kind, Winter};
 use notices::{HoursFault, HoursVerdict, Notice, Profile};
 
 // What the call on one event answers: the event, or why it is refused.
-#[derive(Drop)]
+#[derive(Clone, Copy)]
 pub enum Line {
     Is(Event),
     NoWinter,

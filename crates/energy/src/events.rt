@@ -5,7 +5,7 @@ ghost use Rattle.energy.specs.Line.{by_fault};
 use book::Fault;
 
 // An event: its code, its place and its spared energy, in eighteenths of a Wh for the winter credit and in Wh for a medium-power site.
-#[derive(Drop)]
+#[derive(Clone, Copy)]
 pub struct Event {
     pub code: u32,
     pub place: u32,

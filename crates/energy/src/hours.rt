@@ -9,7 +9,7 @@ use notices::Profile;
 // The warm-up hours are those from `early` to `gap` - 1 and those from `warm` to `pause` - 1, the event hours those from `start` to
 // `end` - 1. Early ones there are only where the clocks pass over an hour between. So that run is nearly always empty, and then no loop
 // goes over it.
-#[derive(Drop)]
+#[derive(Clone, Copy)]
 pub struct Hours {
     pub early: u32,
     pub gap: u32,

@@ -14,28 +14,28 @@ const EVENT_NUMBERS: u32 = notices::NOTICE_NUMBERS as u32;
 const MOST_VALUES: u32 = book::DAY_HOURS as u32;
 
 // The day and the hour that a read line starts with, and the position after them.
-#[derive(Drop)]
+#[derive(Clone, Copy)]
 pub enum Head {
     Start(u32, u32, usize),
     Broken,
 }
 
 // The day, the first hour and the number of hours of a read line, and the position after it.
-#[derive(Drop)]
+#[derive(Clone, Copy)]
 pub enum Hours {
     Of(u32, u32, u32, usize),
     Broken,
 }
 
 // The position after some lines, or the first of them that breaks the form.
-#[derive(Drop)]
+#[derive(Clone, Copy)]
 pub enum Lines {
     Whole(usize),
     Broken(usize),
 }
 
 // The position after some read lines and the first of them that is misplaced, or 0; or the first of them that breaks the form.
-#[derive(Drop)]
+#[derive(Clone, Copy)]
 pub enum Placed {
     Whole(usize, usize),
     Broken(usize),

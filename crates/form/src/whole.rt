@@ -11,7 +11,7 @@ use numerals::{Number, keyed_at};
 
 // What a text that has the form says beside its notices and readings: the winter, the price, how many notices it has, and the first read line
 // that is misplaced (31) for the days of that winter, as a line of the text, or 0.
-#[derive(Drop)]
+#[derive(Clone, Copy)]
 pub struct Shape {
     pub winter: u32,
     pub price: u32,
@@ -20,7 +20,7 @@ pub struct Shape {
 }
 
 // A text has the form, or breaks it first in this line, counted from 1.
-#[derive(Drop)]
+#[derive(Clone, Copy)]
 pub enum Form {
     Whole(Shape),
     Broken(usize),
@@ -28,7 +28,7 @@ pub enum Form {
 
 // The winter, the price and the number of event lines of a text, and the position after its first three lines; or the first of these that
 // breaks the form.
-#[derive(Drop)]
+#[derive(Clone, Copy)]
 pub enum Top {
     Is(u32, u32, u32, usize),
     Broken(usize),

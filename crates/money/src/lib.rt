@@ -1,4 +1,6 @@
 // Money over energies: the price, and what energy is worth in cents.
+#![tactic(auto)]
+
 mod price;
 mod worth;
 

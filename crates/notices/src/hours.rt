@@ -8,7 +8,7 @@ use crate::notices::{Notice, hours_of};
 use crate::profiles::{Band, Figures};
 
 // What is wrong with the hours of a notice: the end is not after the start, no hour is in a band, or not all are inside one.
-#[derive(Drop)]
+#[derive(Clone, Copy)]
 pub enum HoursFault {
     NoHours,
     NoBand,
@@ -16,7 +16,7 @@ pub enum HoursFault {
 }
 
 // Whether the hours of a notice lie inside one band, or what is wrong with them.
-#[derive(Drop)]
+#[derive(Clone, Copy)]
 pub enum HoursVerdict {
     InBand,
     Wrong(HoursFault),

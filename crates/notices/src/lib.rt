@@ -1,4 +1,6 @@
 // What a notice is: the notices of a list, the profiles and their figures, and the rules that need nothing but these.
+#![tactic(auto)]
+
 mod hours;
 mod notices;
 mod profiles;

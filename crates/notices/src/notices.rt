@@ -12,7 +12,7 @@ pub const MOST_NOTICES: usize = 100;
 pub const LONGEST_LIST: usize = NOTICE_NUMBERS * MOST_NOTICES;
 
 // A notice: its hours are those from start to end - 1 of its day.
-#[derive(Drop)]
+#[derive(Clone, Copy)]
 pub struct Notice {
     pub day: u32,
     pub start: u32,

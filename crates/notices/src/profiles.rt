@@ -2,21 +2,21 @@
 ghost use Rattle.std.specs.Prelude.{◌≡◌};
 ghost use Rattle.notices.specs.Profiles.{figures_of, named};
 
-#[derive(Drop)]
+#[derive(Clone, Copy)]
 pub enum Profile {
     Credit,
     PowerOption,
 }
 
 // A band: the hours of a day from start to end - 1.
-#[derive(Drop)]
+#[derive(Clone, Copy)]
 pub struct Band {
     pub start: u32,
     pub end: u32,
 }
 
 // The figures of a profile: one column of section 3's table.
-#[derive(Drop)]
+#[derive(Clone, Copy)]
 pub struct Figures {
     pub morning: Band,
     pub evening: Band,
@@ -59,7 +59,7 @@ impl Profile {
 }
 
 // The profile of a number, if it is one.
-#[derive(Drop)]
+#[derive(Clone, Copy)]
 pub enum Named {
     Is(Profile),
     NoProfile,

@@ -4,21 +4,21 @@ ghost use Rattle.numerals.specs.Decimal.{is_digit};
 ghost use Rattle.numerals.specs.Fields.{largest, digits_from, field_at, word_at, keyed_at};
 
 // A number, the byte that ends it, and the position after that byte.
-#[derive(Drop)]
+#[derive(Clone, Copy)]
 pub enum Field {
     Is(u32, u8, usize),
     Broken,
 }
 
 // A number and the position after its line.
-#[derive(Drop)]
+#[derive(Clone, Copy)]
 pub enum Number {
     Is(u32, usize),
     Broken,
 }
 
 // The position after bytes that were looked for.
-#[derive(Drop)]
+#[derive(Clone, Copy)]
 pub enum Step {
     To(usize),
     Broken,

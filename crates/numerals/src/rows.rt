@@ -6,7 +6,7 @@ ghost use Rattle.numerals.specs.Rows.{next_index, row_at, row_told};
 use crate::fields::{Field, field_at};
 
 // How many numbers a line has, and the position after it.
-#[derive(Drop)]
+#[derive(Clone, Copy)]
 pub enum Row {
     Of(u32, usize),
     Broken,

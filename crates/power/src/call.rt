@@ -13,7 +13,7 @@ use crate::refusals::refusal_of;
 
 // What a medium-power settlement answers: the refusal number and place, 0 if it is accepted; and all reductions added up, how many events
 // are settled and the cents of the credit, 0 if it is refused.
-#[derive(Drop)]
+#[derive(Clone, Copy)]
 pub struct PowerSettlement {
     pub number: u32,
     pub place: u32,

@@ -7,7 +7,7 @@ use energy::Event;
 use notices::Notice;
 
 // An event, its energy in Wh, and its reduction in twelfths of a W.
-#[derive(Drop)]
+#[derive(Clone, Copy)]
 pub struct Reduced {
     pub event: Event,
     pub reduction: u64,

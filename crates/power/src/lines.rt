@@ -15,7 +15,7 @@ pub const LINE_NUMBERS: usize = 4;
 pub const MOST_LINE_NUMBERS: usize = LINE_NUMBERS * notices::MOST_NOTICES;
 
 // The sum of the reductions of some lines, and how many of them are settled.
-#[derive(Drop)]
+#[derive(Clone, Copy)]
 pub(crate) struct Sums {
     pub sum: u64,
     pub settled: u64,

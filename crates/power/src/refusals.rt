@@ -15,7 +15,7 @@ pub const TOTAL_NUMBERS: usize = 3;
 const LARGEST_REFERENCE: u32 = 10_000_000;
 
 // A refusal: its number, 0 if there is none, and its place.
-#[derive(Drop)]
+#[derive(Clone, Copy)]
 pub(crate) struct Refusal {
     pub number: u32,
     pub place: u32,

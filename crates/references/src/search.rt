@@ -7,7 +7,7 @@ ghost use Rattle.calendar.specs.Days.{wrong_winter};
 use calendar::{Change, DayKind, Kind, Winter};
 
 // Reference days, nearest first: the first `count` of `days`, and zeros behind them.
-#[derive(Drop)]
+#[derive(Clone, Copy)]
 pub struct Refs {
     pub days: [u32; 5],
     pub count: usize,

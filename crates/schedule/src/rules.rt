@@ -8,7 +8,7 @@ use calendar::{DayKind, Kind, Winter};
 use notices::{Figures, Notice};
 
 // What stands before a notice: the last event so far, which is the notice before it, and the hours of all events so far.
-#[derive(Drop)]
+#[derive(Clone, Copy)]
 pub struct Sofar {
     pub event: Notice,
     pub hours: u32,

@@ -6,7 +6,7 @@ ghost use Rattle.schedule.specs.Verdicts.{rule_number, number_of, place_of, verd
 use notices::HoursFault;
 
 // The rules of the list check; those of the hours are told apart by their fault.
-#[derive(Drop)]
+#[derive(Clone, Copy)]
 pub enum Rule {
     NoWinter,
     BadList,
@@ -22,7 +22,7 @@ pub enum Rule {
 }
 
 // Whether a list stands, or the rule that it breaks first, with the index of the notice that breaks it.
-#[derive(Drop)]
+#[derive(Clone, Copy)]
 pub enum Verdict {
     Accepted,
     Refused(Rule, u32),

@@ -1,4 +1,6 @@
 // Numbers as bytes, little-endian, for the boundary to C: four bytes a number that comes in, eight a number that goes out.
+#![tactic(auto)]
+
 mod counts;
 mod reading;
 mod writing;

@@ -1,0 +1,26 @@
+-- `put_field` puts the digits and behind them the byte that ends the number: at most 20 and one.
+-- Assumes nothing.
+use Prim.Native.Nat.{◌≤◌, ◌<◌}
+use native.Mathlib.Omega.{arith}
+use lib.ListN.{length}
+use Rattle.numerals.specs.Decimal.{decimal}
+use Rattle.numerals.proofs.DecimalLaws.{decimal_short}
+use Rattle.numerals.proofs.PutLaws.{put_length, put_end}
+use Rattle.numerals.proofs.writing.put_field.Goals as goal
+
+short : (c : goal.Start) → length (decimal c.args.n) ≤ 20
+short c =
+    let h : c.args.n < 18446744073709551616 = omega arith in
+    decimal_short _ h
+
+pub put_number-next-requires : goal.put_number-next-requires
+put_number-next-requires c = omega (arith, short c)
+
+pub bounds-out-next : goal.bounds-out-next
+bounds-out-next c = omega (arith, short c, put_length c.put_number-next.ensures)
+
+pub overflow_add-result : goal.overflow_add-result
+overflow_add-result c = omega (arith, short c, put_length c.put_number-next.ensures)
+
+pub returns : goal.returns
+returns c = record { put = put_end _ _ c.put_number-next.ensures; upper_bound = omega (arith, short c) }
