@@ -1,6 +1,6 @@
 -- Laws of the nearest whole number to a fraction: the division gives it, and no other number is it.
 -- Assumes nothing.
-use Prim.Native.Nat.{ℕ, suc, ◌+◌, ◌*◌, ◌/◌, ◌≤◌, ◌<◌}
+use Prim.Native.Nat.{ℕ, ◌+◌, ◌/◌, ◌≤◌, ◌<◌}
 use mathlib.Core.Logic.{⊎_elim}
 use mathlib.Core.Path.{◌≡◌}
 use native.Mathlib.Nat.{mod-lt, div-add-mod, mul-le-mul_left, mul-suc}

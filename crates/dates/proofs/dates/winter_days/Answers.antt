@@ -1,10 +1,8 @@
-use Prim.Native.Nat.{◌-◌}
 use mathlib.Core.Path.{◌∙◌}
 use native.Mathlib.Omega.{arith}
 use Rattle.laws.proofs.Guards.{found}
 use Rattle.laws.proofs.Refusals.{refused, kept}
 use Rattle.dates.specs.Answers.{winter_days}
-use Rattle.dates.specs.Winters.{days}
 use Rattle.dates.proofs.DateLaws.{length_small, together_days, together_next, together_end}
 use Rattle.dates.proofs.Promise.{winter_range}
 use borrow.Author.Rules.{rules}

@@ -1,8 +1,7 @@
-use Prim.Native.Nat.{◌-◌}
 use mathlib.Core.Path.{◌∙◌}
 use native.Mathlib.Omega.{arith}
 use Rattle.laws.proofs.RowLaws.{filled_none, filled_set, filled_ones}
-use Rattle.wire.specs.Bytes.{four_bytes_at, numbers_read}
+use Rattle.wire.specs.Bytes.{numbers_read}
 use Rattle.wire.proofs.reading.read_numbers.Goals as goal
 
 pub loop-i-init : goal.loop-i-init
