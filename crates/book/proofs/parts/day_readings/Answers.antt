@@ -13,8 +13,8 @@ returns-then-no_part c =
     let none = found c.no_part.ensures c.if-no_part.true in
     record { contents = part_none _ _ _ none; place = (refl, omega (arith, start_none _ _ _ none)) }
 
-pub UNMAPPED-slice-bounds-result-end-2 : goal.UNMAPPED-slice-bounds-result-end-2
-UNMAPPED-slice-bounds-result-end-2 c =
+pub slice_bounds-result-end-2 : goal.slice_bounds-result-end-2
+slice_bounds-result-end-2 c =
     let there = has_part _ _ _ (found c.no_part.ensures c.if-no_part.false) in
     omega arith
 
