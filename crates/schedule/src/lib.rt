@@ -1,4 +1,6 @@
 // Notices that can stand together: the list check and its verdicts.
+#![tactic(auto)]
+
 mod lent_check;
 mod list_check;
 mod notice_check;
