@@ -1,4 +1,6 @@
 // What was spared: from the readings of a book to the spared energy of an event.
+#![tactic(auto)]
+
 mod call;
 mod events;
 mod hours;

@@ -4,17 +4,13 @@ use Prim.Native.Nat.{ℕ, ◌*◌, ◌^◌, ◌≤◌, ◌<◌}
 use mathlib.Core.Path.{refl}
 use native.Mathlib.Nat.{mul-le-mul}
 use native.Mathlib.Omega.{arith}
-use Rattle.energy.proofs.spared.scaled.Statement.{statement}
-use Rattle.energy.proofs.spared.scaled.Tie as tie
+use Rattle.energy.proofs.spared.scaled.Goals as goal
 
 product : (x k : ℕ) → x < 2 ^ 44 → k ≤ 24 → x * k ≤ 2 ^ 44 * 24
 product x k hx hk = mul-le-mul {n₂ = 2 ^ 44} (omega arith) hk
 
-mul-result : tie.Need-overflow-mul-result
-mul-result c = omega (arith, product c.args.x c.args.k c.requires.x_small c.requires.k_small)
+pub overflow_mul-result : goal.overflow_mul-result
+overflow_mul-result c = omega (arith, product c.args.x c.args.k c.requires.x_small c.requires.k_small)
 
-returns : tie.Need-returns
+pub returns : goal.returns
 returns c = record { is = refl; small = omega (arith, product c.args.x c.args.k c.requires.x_small c.requires.k_small) }
-
-pub scaled_spec : {M : Type 1} → statement M
-scaled_spec = tie.close (tie.spec mul-result returns)
