@@ -1,4 +1,6 @@
 // The settlement of a winter's notices: a code, a place and a spared energy each.
+#![tactic(auto)]
+
 mod events;
 
 pub use events::event_at;
