@@ -1,4 +1,6 @@
 // The winter credit: the events of a winter's notices and their cents, four numbers a notice.
+#![tactic(auto)]
+
 mod call;
 mod lines;
 mod refusals;

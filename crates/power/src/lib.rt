@@ -1,4 +1,6 @@
 // The medium-power settlement: what each event spared by its reference, the effective power of a winter and its credit.
+#![tactic(auto)]
+
 mod call;
 mod events;
 mod lines;

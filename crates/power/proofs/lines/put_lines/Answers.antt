@@ -1,0 +1,49 @@
+use Prim.Native.Nat.{suc, ◌-◌}
+use mathlib.Core.Path.{◌≡◌, refl}
+use native.Mathlib.Omega.{arith}
+use Rattle.laws.proofs.RowLaws.{filled_all}
+use Rattle.power.proofs.Carried.{carried_none, event_at_lem, more_sum, more_settled, carried_next}
+use Rattle.power.proofs.LineLaws.{ready_fits}
+use Rattle.power.proofs.lines.put_lines.Goals as goal
+
+pub loop-k-init : goal.loop-k-init
+loop-k-init c = carried_none
+
+pub reduced_of-r-requires : goal.reduced_of-r-requires
+reduced_of-r-requires c = rw c.notice_at.ensures (c.requires.each _ c.loop-k-test.true)
+
+pub overflow_add-sum : goal.overflow_add-sum
+overflow_add-sum c =
+    let book = c.args.book.now in
+    let list = c.args.list.now in
+    let references = c.args.references.now in
+    let is = event_at_lem book list references c.loop-k.k _ _ _ refl c.notice_at.ensures c.reduced_of-r.ensures in
+    let fits = ready_fits book list references c.requires (suc c.loop-k.k) c.loop-k-test.true in
+    omega (arith, more_sum book list references c.loop-k.invariant c.requires c.loop-k-test.true _ is, fits.sum_most, fits.few)
+
+pub overflow_add-settled : goal.overflow_add-settled
+overflow_add-settled c =
+    let book = c.args.book.now in
+    let list = c.args.list.now in
+    let references = c.args.references.now in
+    let is = event_at_lem book list references c.loop-k.k _ _ _ refl c.notice_at.ensures c.reduced_of-r.ensures in
+    let fits = ready_fits book list references c.requires (suc c.loop-k.k) c.loop-k-test.true in
+    let more = more_settled book list references c.loop-k.invariant c.requires c.loop-k-test.true _ is in
+    omega (arith, c.settled_one-one.ensures, more, fits.sum_most, fits.few)
+
+pub loop-k-preserved : goal.loop-k-preserved
+loop-k-preserved c =
+    let book = c.args.book.now in
+    let list = c.args.list.now in
+    let references = c.args.references.now in
+    let is = event_at_lem book list references c.loop-k.k _ _ _ refl c.notice_at.ensures c.reduced_of-r.ensures in
+    carried_next book list references c.loop-k.invariant c.requires c.loop-k-test.true _ is _ c.settled_one-one.ensures _ c.put_line.ensures
+
+pub shape_of-out : goal.shape_of-out
+shape_of-out c = c.loop-k.invariant.filled.size
+
+pub returns : goal.returns
+returns c =
+    let all : c.loop-k.k ≡ c.args.n = omega arith in
+    let inv = c.loop-k.invariant in
+    record { value = rw (inv.sum_is, inv.settled_is, all); out_after = filled_all inv.filled c.loop-k-test.false }
