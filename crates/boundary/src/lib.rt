@@ -1,4 +1,6 @@
 // The calls on bytes, as a host program in C lends them.
+#![tactic(auto)]
+
 mod check_call;
 mod packing;
 mod settle_call;

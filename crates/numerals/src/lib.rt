@@ -1,4 +1,6 @@
 // Decimal numbers, words and lines as bytes, as a text and a statement hold them.
+#![tactic(auto)]
+
 mod fields;
 mod rows;
 mod writing;

@@ -4,7 +4,7 @@ use mathlib.Core.List.{List}
 use mathlib.Core.Path.{◌≡◌, sym, ◌∙◌}
 use native.Mathlib.Omega.{arith}
 use lib.ListN.{get_or}
-use borrow.Author.Tests.{not-true, not-false}
+use borrow.Author.Tests.{not-false}
 use Rattle.laws.proofs.Guards.{found}
 use Rattle.numerals.specs.Decimal.{is_digit}
 use Rattle.numerals.proofs.DecimalLaws.{DigitByte, digit_range}
@@ -31,7 +31,7 @@ overflow_cast-result c = omega arith
 
 pub returns-then-not-is_digit : goal.returns-then-not-is_digit
 returns-then-not-is_digit c =
-    let other = found c.is_digit.ensures (not-true _ c.if-not-is_digit.true) in
+    let other = found c.is_digit.ensures c.if-not-is_digit.true in
     sym (digits_stop (S c) c.loop-i.i _ c.loop-i-test.true other) ∙ c.loop-i.invariant.1
 
 pub overflow_mul-value : goal.overflow_mul-value

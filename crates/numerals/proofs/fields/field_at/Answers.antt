@@ -6,7 +6,7 @@ use mathlib.Core.List.{List}
 use mathlib.Core.Path.{◌≡◌, sym, ◌∙◌}
 use native.Mathlib.Omega.{arith}
 use lib.ListN.{get_or}
-use borrow.Author.Tests.{not-true, not-false}
+use borrow.Author.Tests.{not-false}
 use Rattle.laws.proofs.Guards.{found}
 use Rattle.numerals.specs.Decimal.{is_digit}
 use Rattle.numerals.proofs.DecimalLaws.{DigitByte, digit_range}
@@ -32,7 +32,7 @@ returns-then-text-at c = sym (field_end _ _ c.if-text-at.true)
 
 pub returns-then-not-is_digit : goal.returns-then-not-is_digit
 returns-then-not-is_digit c =
-    let other = found c.is_digit.ensures (not-true _ c.if-not-is_digit.true) in
+    let other = found c.is_digit.ensures c.if-not-is_digit.true in
     sym (field_none (S c) c.args.at c.if-text-at.false other)
 
 pub overflow_sub-byte : goal.overflow_sub-byte

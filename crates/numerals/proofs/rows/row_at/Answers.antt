@@ -9,23 +9,23 @@ loop-left-init c = (omega arith, record { tells = refl; stores = refl; size = re
 
 pub returns-in_default : goal.returns-in_default
 returns-in_default c =
-    left_broken c.loop-left.invariant.1 (row_none _ _ _ c.loop-left-test.true (sym c.field_at.ensures ∙ c.enum_told-1.given.1))
+    left_broken c.loop-left.invariant.1 (row_none _ _ _ c.loop-left-test.true (sym c.field_at.ensures ∙ c.in_default.is))
 
 pub returns-then-end-eq10 : goal.returns-then-end-eq10
 returns-then-end-eq10 c =
-    let read = sym c.field_at.ensures ∙ c.value-1.given.1 in
+    let read = sym c.field_at.ensures ∙ c.in-Is.is in
     let last = row_last _ _ _ c.loop-left-test.true read c.if-end-eq10.true in
     left_ended (left_more c.loop-left.invariant.1 last c.put-k.ensures.value c.put-k.ensures.out_after) refl
 
 pub returns-then-end-ne44 : goal.returns-then-end-ne44
 returns-then-end-ne44 c =
-    let read = sym c.field_at.ensures ∙ c.value-1.given.1 in
+    let read = sym c.field_at.ensures ∙ c.in-Is.is in
     let bad = row_bad _ _ _ c.loop-left-test.true read c.if-end-eq10.false c.if-end-ne44.true in
     left_broken (left_more c.loop-left.invariant.1 bad c.put-k.ensures.value c.put-k.ensures.out_after) refl
 
 pub loop-left-preserved : goal.loop-left-preserved
 loop-left-preserved c =
-    let read = sym c.field_at.ensures ∙ c.value-1.given.1 in
+    let read = sym c.field_at.ensures ∙ c.in-Is.is in
     let more = row_more _ _ _ c.loop-left-test.true read c.if-end-eq10.false c.if-end-ne44.false in
     (omega arith, left_more c.loop-left.invariant.1 more c.put-k.ensures.value c.put-k.ensures.out_after)
 
