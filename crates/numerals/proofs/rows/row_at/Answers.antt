@@ -9,19 +9,22 @@ loop-left-init c = (omega arith, record { tells = refl; stores = refl; size = re
 
 pub returns-in_default : goal.returns-in_default
 returns-in_default c =
-    left_broken c.loop-left.invariant.1 (row_none _ _ _ c.loop-left-test.true (sym c.field_at.ensures ∙ c.in_default.is))
+    let left = left_broken c.loop-left.invariant.1 (row_none _ _ _ c.loop-left-test.true (sym c.field_at.ensures ∙ c.in_default.is)) in
+    record { value = left.0; out_after = left.1 }
 
 pub returns-then-end-eq10 : goal.returns-then-end-eq10
 returns-then-end-eq10 c =
     let read = sym c.field_at.ensures ∙ c.in-Is.is in
     let last = row_last _ _ _ c.loop-left-test.true read c.if-end-eq10.true in
-    left_ended (left_more c.loop-left.invariant.1 last c.put-k.ensures.value c.put-k.ensures.out_after) refl
+    let left = left_ended (left_more c.loop-left.invariant.1 last c.put-k.ensures.value c.put-k.ensures.out_after) refl in
+    record { value = left.0; out_after = left.1 }
 
 pub returns-then-end-ne44 : goal.returns-then-end-ne44
 returns-then-end-ne44 c =
     let read = sym c.field_at.ensures ∙ c.in-Is.is in
     let bad = row_bad _ _ _ c.loop-left-test.true read c.if-end-eq10.false c.if-end-ne44.true in
-    left_broken (left_more c.loop-left.invariant.1 bad c.put-k.ensures.value c.put-k.ensures.out_after) refl
+    let left = left_broken (left_more c.loop-left.invariant.1 bad c.put-k.ensures.value c.put-k.ensures.out_after) refl in
+    record { value = left.0; out_after = left.1 }
 
 pub loop-left-preserved : goal.loop-left-preserved
 loop-left-preserved c =
@@ -30,4 +33,6 @@ loop-left-preserved c =
     (omega arith, left_more c.loop-left.invariant.1 more c.put-k.ensures.value c.put-k.ensures.out_after)
 
 pub returns : goal.returns
-returns c = left_broken c.loop-left.invariant.1 (row_done _ _ _ (search rules))
+returns c =
+    let left = left_broken c.loop-left.invariant.1 (row_done _ _ _ (search rules)) in
+    record { value = left.0; out_after = left.1 }

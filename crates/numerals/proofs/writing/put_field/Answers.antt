@@ -8,19 +8,22 @@ use Rattle.numerals.proofs.DecimalLaws.{decimal_short}
 use Rattle.numerals.proofs.PutLaws.{put_length, put_end}
 use Rattle.numerals.proofs.writing.put_field.Goals as goal
 
-short : (c : goal.Start) → length (decimal c.args.n) ≤ 20
-short c =
-    let h : c.args.n < 18446744073709551616 = omega arith in
-    decimal_short _ h
-
 pub put_number-next-requires : goal.put_number-next-requires
-put_number-next-requires c = omega (arith, short c)
+put_number-next-requires c =
+    let fits : c.args.n < 18446744073709551616 = omega arith in
+    omega (arith, decimal_short _ fits)
 
 pub bounds-out-next : goal.bounds-out-next
-bounds-out-next c = omega (arith, short c, put_length c.put_number-next.ensures)
+bounds-out-next c =
+    let fits : c.args.n < 18446744073709551616 = omega arith in
+    omega (arith, decimal_short _ fits, put_length c.put_number-next.ensures)
 
 pub overflow_add-result : goal.overflow_add-result
-overflow_add-result c = omega (arith, short c, put_length c.put_number-next.ensures)
+overflow_add-result c =
+    let fits : c.args.n < 18446744073709551616 = omega arith in
+    omega (arith, decimal_short _ fits, put_length c.put_number-next.ensures)
 
 pub returns : goal.returns
-returns c = record { put = put_end _ _ c.put_number-next.ensures; upper_bound = omega (arith, short c) }
+returns c =
+    let fits : c.args.n < 18446744073709551616 = omega arith in
+    record { put = put_end _ _ c.put_number-next.ensures; upper_bound = omega (arith, decimal_short _ fits) }

@@ -10,15 +10,6 @@ use Rattle.numerals.proofs.FieldWalk.{has_room, line_none, line_whole}
 use Rattle.numerals.proofs.PutLaws.{put_length, put_same, put_nothing, put_then}
 use Rattle.numerals.proofs.writing.put_line.Goals as goal
 
--- past the test there is room
-abbrev Room : goal.Start → Type 0
-Room start = start.args.at + length start.args.key.now + field_room * length start.args.numbers.now ≤ length start.args.out.now
-
-room : (c : goal.Else-no_room) → Room c
-room c =
-    let a = c.args in
-    has_room _ _ a.key.now a.numbers.now (found c.no_room.ensures c.if-no_room.false)
-
 pub returns-then-no_room : goal.returns-then-no_room
 returns-then-no_room c =
     let a = c.args in
@@ -26,10 +17,14 @@ returns-then-no_room c =
     record { put = put_same (put_nothing a.out.now a.at) (sym (line_none _ _ a.key.now a.numbers.now none)); upper_bound = omega arith }
 
 pub put_key-first-requires : goal.put_key-first-requires
-put_key-first-requires c = omega (arith, room c)
+put_key-first-requires c =
+    let room = has_room _ _ c.args.key.now c.args.numbers.now (found c.no_room.ensures c.if-no_room.false) in
+    omega (arith, room)
 
 pub put_fields-requires : goal.put_fields-requires
-put_fields-requires c = omega (arith, room c, c.put_key-first.ensures.ends, put_length c.put_key-first.ensures)
+put_fields-requires c =
+    let room = has_room _ _ c.args.key.now c.args.numbers.now (found c.no_room.ensures c.if-no_room.false) in
+    omega (arith, room, c.put_key-first.ensures.ends, put_length c.put_key-first.ensures)
 
 pub returns : goal.returns
 returns c =
