@@ -1,4 +1,6 @@
 // The text form read: whether a text has it, and what it says, in one walk.
+#![tactic(auto)]
+
 mod lines;
 mod places;
 mod whole;

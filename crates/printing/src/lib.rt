@@ -1,4 +1,6 @@
 // The statement of a settlement as bytes, and the line of a refused text.
+#![tactic(auto)]
+
 mod lines;
 mod sheet;
 

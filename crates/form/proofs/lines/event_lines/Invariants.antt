@@ -1,0 +1,10 @@
+-- The event lines are the definition's, and their numbers are stored. Invariant: what is left of them ends and stores as all do (`EventWalk`).
+-- Assumes nothing.
+use Rattle.form.proofs.EventWalk.{EventsLeft}
+use Rattle.form.proofs.lines.event_lines.Given as goal
+
+abbrev pub invariant-loop-left : goal.invariant-loop-left
+invariant-loop-left l = EventsLeft l.text l.at l.events l.initial.list l.list l.left l.i l.line l.k
+
+abbrev pub decreases-loop-left : goal.decreases-loop-left
+decreases-loop-left l = l.left

@@ -1,0 +1,12 @@
+-- The read lines and the first misplaced one are the definition's, and their values are put into the book. Invariant: what is left of them
+-- ends and puts as all do, and has the first misplaced line unless one was found (`ReadWalk`).
+-- Assumes nothing.
+use Rattle.form.proofs.ReadWalk.{ReadsLeft}
+use Rattle.form.proofs.lines.read_lines.Given as goal
+
+abbrev pub invariant-loop-left : goal.invariant-loop-left
+invariant-loop-left l =
+    ReadsLeft l.days l.text l.at l.reads l.first l.initial.book l.book l.left l.i l.line l.end l.found
+
+abbrev pub decreases-loop-left : goal.decreases-loop-left
+decreases-loop-left l = l.left
