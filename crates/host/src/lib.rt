@@ -1,4 +1,6 @@
 // The three calls of rule 9.1, on numbers and lent bytes. No more than the names.
+#![tactic(auto)]
+
 ghost use Rattle.std.specs.Prelude.{◌≡◌, length};
 ghost use Rattle.boundary.specs.Calls.{check_call, settle_call, settle_bytes};
 ghost use Rattle.power_boundary.specs.PowerCalls.{power_call, power_bytes, total_bytes};

@@ -1,4 +1,6 @@
 // The statement of a text: one call.
+#![tactic(auto)]
+
 mod answer;
 
 pub use answer::statement;

@@ -1,0 +1,8 @@
+-- With the room of every answer the line of a refusal is printed.
+-- Assumes nothing.
+use native.Mathlib.Omega.{arith}
+use Rattle.text.proofs.PrintLaws.{prints}
+use Rattle.text.proofs.answer.refuse.Goals as goal
+
+pub returns : goal.returns
+returns c = prints _ c.args.out.now _ _ 0 0 (omega arith) (omega arith) c.requires (c.print_refusal.ensures.value, c.print_refusal.ensures.out_after)
