@@ -1,4 +1,6 @@
 // The inner layers under names that C can link, for the tests and for scripts/calendar: no part of what is delivered.
+#![tactic(auto)]
+
 mod calendar_calls;
 mod clock_calls;
 mod event_calls;

@@ -1,0 +1,10 @@
+-- The length is that of the day's part.
+-- Assumes nothing.
+use Rattle.probe.proofs.YearLaws.{no_part_of, part_of_lem}
+use Rattle.probe.proofs.calendar_calls.probe_part_length.Goals as goal
+
+pub returns-in_default : goal.returns-in_default
+returns-in_default c = rw (← no_part_of _ _ c.winter_of-known.ensures _ _ c.in_default.is)
+
+pub returns : goal.returns
+returns c = rw (← part_of_lem _ _ c.winter_of-known.ensures _ _ _ c.in-Is.is) (rw c.day_readings-part.ensures.contents)
