@@ -2,7 +2,7 @@
 -- accepted exactly when it keeps every rule (`PowerSettles`), and then lines and totals are those of `PowerDemand`. No reading but those of the event
 -- hours has an effect.
 -- Assumes nothing.
-use Prim.Native.Nat.{ℕ, suc, ◌+◌, ◌-◌, ◌*◌, ◌≤◌, ◌<◌}
+use Prim.Native.Nat.{ℕ, ◌-◌, ◌*◌, ◌<◌}
 use mathlib.Core.List.{List}
 use mathlib.Core.Logic.{◌↔◌}
 use mathlib.Core.Path.{◌≡◌, refl, sym, ap, ◌∙◌}
@@ -14,7 +14,7 @@ use Rattle.laws.proofs.Every.{Every}
 use Rattle.laws.proofs.SumLaws.{run_same, run_first}
 use Rattle.laws.proofs.Tells.{Tells}
 use Rattle.laws.specs.Answer.{bit}
-use Rattle.laws.specs.Sums.{sum_to, run_of}
+use Rattle.laws.specs.Sums.{sum_to}
 use Rattle.notices.specs.Notices.{count_of, notice_at, hours_of}
 use Rattle.notices.specs.declared.notices.Notice.{Notice}
 use Rattle.power.proofs.CreditLaws.{credit_none, credit_nearest, credit_most}
@@ -27,9 +27,8 @@ use Rattle.power.specs.Credit.{credit_of}
 use Rattle.power.specs.Lines.{power_line_numbers, power_lines_in, reduction_at, settled_at}
 use Rattle.power.specs.Ready.{AllReady, Ready}
 use Rattle.power.specs.Reduced.{needed_of, reduced_of, reference_at, reduced_at}
-use Rattle.power.specs.Refusals.{total_numbers, power_table}
+use Rattle.power.specs.Refusals.{power_table}
 use Rattle.power.specs.Settlement.{power_totals_of, power_settlement, power_written}
-use Rattle.power.specs.declared.call.PowerSettlement.{PowerSettlement}
 use Rattle.power.specs.declared.events.Reduced.{Reduced}
 use Rattle.demands.specs.PowerDemand.{PowerLine, PowerCredit, PowerDemand}
 use Rattle.demands.specs.PowerSheet.{PowerSheet, power_output}

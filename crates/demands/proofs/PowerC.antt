@@ -1,10 +1,10 @@
 -- Demands 1 and 2 of the medium-power settlement, from C: number and place are read off the one number that it answers, a refusal leaves every byte of
 -- both outputs, and the numbers that C reads out of the bytes of an accepted call are lines and totals of `PowerDemand`, since each fits 64 bits.
 -- Assumes nothing.
-use Prim.Native.Nat.{ℕ, ◌+◌, ◌*◌, ◌/◌, ◌%◌, ◌^◌, ◌≤◌, ◌<◌}
+use Prim.Native.Nat.{ℕ, ◌+◌, ◌*◌, ◌/◌, ◌%◌, ◌^◌, ◌<◌}
 use mathlib.Core.List.{List, [], ◌++◌, append-nil}
 use mathlib.Core.Logic.{◌↔◌}
-use mathlib.Core.Path.{◌≡◌, refl, sym, ap, ◌∙◌}
+use mathlib.Core.Path.{◌≡◌, refl, ap, ◌∙◌}
 use native.Mathlib.Omega.{arith}
 use lib.ListN.{length, get_or, drop}
 use Rattle.power_boundary.proofs.PowerTold.{power_told, power_accepted, lines_unwritten, totals_unwritten, lines_written, totals_written}
@@ -30,7 +30,7 @@ use Rattle.wire.proofs.RoundTrip.{written_back}
 use Rattle.wire.specs.Decoded.{decoded}
 use Rattle.demands.specs.Faces.{number64}
 use Rattle.demands.specs.PowerDemand.{PowerDemand}
-use Rattle.demands.specs.PowerSheet.{PowerSheet, power_in_bytes}
+use Rattle.demands.specs.PowerSheet.{power_in_bytes}
 use Rattle.demands.proofs.Power.{TellsEvent, ready, sheet_demand}
 
 module _ (winter : ℕ) (lent_book lent_list lent_references out totals : List ℕ) where

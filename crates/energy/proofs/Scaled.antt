@@ -1,8 +1,8 @@
 -- A book whose needed readings are k times another's has k times its R, B, A and C.
 -- Assumes nothing.
-use Prim.Native.Nat.{ℕ, ◌+◌, ◌*◌, ◌≤◌, ◌<◌, min, max}
+use Prim.Native.Nat.{ℕ, ◌*◌, ◌≤◌, ◌<◌, min, max}
 use mathlib.Core.List.{List, [], ◌∷◌, ◌++◌, map}
-use mathlib.Core.Logic.{◌⊎◌, ⊎_elim}
+use mathlib.Core.Logic.{⊎_elim}
 use mathlib.Core.Path.{◌≡◌, sym}
 use native.Mathlib.Nat.{mul-add, mul-zero, mul-sub, mul-le-mul_left, min-eq_left, min-eq_right, max-eq_left, max-eq_right}
 use native.Mathlib.Omega.{arith}

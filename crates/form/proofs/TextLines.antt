@@ -12,7 +12,7 @@ use Rattle.notices.specs.Notices.{notice_numbers}
 use Rattle.numerals.proofs.Here.{Here, here_then, past}
 use Rattle.numerals.proofs.LineLaws.{number_bytes, fields_more, line_is}
 use Rattle.numerals.proofs.ReadFields.{comma_ends, word_reads, field_reads, row_reads}
-use Rattle.numerals.proofs.Ways.{first, after_field_lem, after_step_lem}
+use Rattle.numerals.proofs.Ways.{after_field_lem, after_step_lem}
 use Rattle.numerals.proofs.WrittenFields.{word_written, field_written}
 use Rattle.numerals.proofs.WrittenRows.{row_written}
 use Rattle.numerals.specs.Decimal.{decimal}

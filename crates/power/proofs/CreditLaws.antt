@@ -2,16 +2,16 @@
 -- Assumes nothing.
 use Prim.Native.Nat.{ℕ, zero, suc, ◌+◌, ◌*◌, ◌/◌, ◌≤◌, ◌<◌}
 use mathlib.Core.Logic.{⊎_elim}
-use mathlib.Core.Path.{◌≡◌, refl, sym}
-use native.Mathlib.Nat.{le_trans, mul-le-mul, mul-le-mul_left, mul-suc}
+use mathlib.Core.Path.{◌≡◌, refl}
+use native.Mathlib.Nat.{mul-le-mul, mul-le-mul_left}
 use native.Mathlib.Omega.{arith}
 use borrow.Author.Tests.{eq-eqb, ne_eqb}
 use Rattle.laws.proofs.Order.{either_order}
 use Rattle.money.proofs.NearestLaws.{nearest_whole_lem}
-use Rattle.money.specs.Nearest.{nearest_whole, Nearest}
+use Rattle.money.specs.Nearest.{Nearest}
 use Rattle.power.specs.Credit.{credit_parts, exact_credit, credit_of, largest_credit}
-use Rattle.power.specs.Rates.{kilowatt, last_rate, rate_of}
-use Rattle.power.specs.Ready.{largest_reduction, MeanFits}
+use Rattle.power.specs.Rates.{kilowatt, rate_of}
+use Rattle.power.specs.Ready.{MeanFits}
 use Rattle.power.proofs.RateLaws.{rate_last, rate_most}
 
 module _ (sum count : ℕ) where

@@ -1,7 +1,7 @@
 -- Laws of the settlement, one for each way out: refused, with nothing written, or settled by the lines and their totals, which the notices of an
 -- accepted list are ready for.
 -- Assumes nothing.
-use Prim.Native.Nat.{ℕ, ◌*◌, ◌≤◌, ◌<◌}
+use Prim.Native.Nat.{ℕ, ◌*◌, ◌≤◌}
 use mathlib.Core.Bool.{Bool, true, false, true≢false}
 use mathlib.Core.List.{List, append-nil}
 use mathlib.Core.Logic.{⊎_elim}
@@ -17,7 +17,7 @@ use Rattle.laws.specs.Table.{refusal_at, first_of, is_refusal}
 use Rattle.notices.proofs.HourLaws.{Inside}
 use Rattle.notices.proofs.NoticeLaws.{hours_are}
 use Rattle.notices.proofs.ProfileLaws.{option_figures}
-use Rattle.notices.specs.Notices.{count_of, notice_at, hours_of}
+use Rattle.notices.specs.Notices.{count_of}
 use Rattle.notices.specs.Profiles.{power_option, figures_of}
 use Rattle.notices.specs.declared.notices.Notice.{Notice}
 use Rattle.notices.specs.declared.profiles.Profile.TheVariants.{PowerOption}

@@ -1,6 +1,6 @@
 -- What the private functions ask and ensure: the medium-power settlement on bytes whose lengths are right.
 -- Assumes nothing.
-use Rattle.std.specs.Prelude.{ℕ, ◌*◌, ◌/◌, ◌≤◌, List, ◌≡◌, length}
+use Rattle.std.specs.Prelude.{ℕ, ◌*◌, ◌/◌, ◌≤◌, List, ◌≡◌}
 use Rattle.book.specs.Length.{most_readings}
 use Rattle.notices.specs.Notices.{most_notices, longest_list, count_in, count_of}
 use Rattle.power.specs.Lines.{power_line_numbers}

@@ -1,4 +1,3 @@
-use Prim.Native.Nat.{◌-◌}
 use native.Mathlib.Omega.{arith}
 use Rattle.book.specs.Readings.{reading_at}
 use Rattle.book.proofs.SumLaws.{sum_more, sum_there}

@@ -1,8 +1,6 @@
 -- `line_of_days` answers by the parts of six days, which are the book's.
 -- Assumes nothing.
-use mathlib.Core.Path.{◌≡◌}
 use native.Mathlib.Omega.{arith}
-use lib.ListN.{length}
 use Rattle.energy.proofs.BookParts.{days_ready, book_line}
 use borrow.Author.Rules.{rules}
 use Rattle.energy.proofs.lines.line_of_days.Goals as goal

@@ -1,4 +1,3 @@
-use Prim.Native.Nat.{◌-◌}
 use mathlib.Core.Path.{refl, ◌∙◌}
 use Rattle.laws.proofs.Guards.{found}
 use Rattle.energy.proofs.AllReadings.{one_reading, one_not, no_hour}

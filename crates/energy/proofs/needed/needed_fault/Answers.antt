@@ -1,8 +1,6 @@
 -- `needed_fault` goes from day to day: the event day, and then the reference days.
 -- Assumes nothing.
-use mathlib.Core.Path.{◌≡◌}
 use native.Mathlib.Omega.{arith}
-use lib.ListN.{length}
 use Rattle.energy.proofs.DayFaults.{six_faults}
 use borrow.Author.Rules.{rules}
 use Rattle.energy.proofs.needed.needed_fault.Goals as goal

@@ -1,4 +1,3 @@
-use Prim.Native.Nat.{◌-◌}
 use native.Mathlib.Omega.{arith}
 use Rattle.event_hours.proofs.DayLaws.{masks_none, masks_next, masks_all}
 use Rattle.event_hours.proofs.days.masks_of.Goals as goal

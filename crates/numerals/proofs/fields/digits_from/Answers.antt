@@ -1,12 +1,10 @@
-use Prim.Native.Nat.{ℕ, ◌-◌}
 use mathlib.Core.Bool.{true}
-use mathlib.Core.List.{List}
 use mathlib.Core.Path.{◌≡◌, sym, ◌∙◌}
 use native.Mathlib.Omega.{arith}
 use lib.ListN.{get_or}
 use Rattle.laws.proofs.Guards.{found}
 use Rattle.numerals.specs.Decimal.{is_digit}
-use Rattle.numerals.proofs.DecimalLaws.{DigitByte, digit_range}
+use Rattle.numerals.proofs.DecimalLaws.{digit_range}
 use Rattle.numerals.proofs.FieldLaws.{digits_end, digits_stop, digits_big, digits_more}
 use borrow.Author.Rules.{rules}
 use Rattle.numerals.proofs.fields.digits_from.Goals as goal

@@ -1,14 +1,12 @@
 -- A number and the byte that ends it are the definition's: one law for each way out.
 -- Assumes nothing.
-use Prim.Native.Nat.{ℕ}
 use mathlib.Core.Bool.{true}
-use mathlib.Core.List.{List}
 use mathlib.Core.Path.{◌≡◌, sym, ◌∙◌}
 use native.Mathlib.Omega.{arith}
 use lib.ListN.{get_or}
 use Rattle.laws.proofs.Guards.{found}
 use Rattle.numerals.specs.Decimal.{is_digit}
-use Rattle.numerals.proofs.DecimalLaws.{DigitByte, digit_range}
+use Rattle.numerals.proofs.DecimalLaws.{digit_range}
 use Rattle.numerals.proofs.FieldLaws.{field_end, field_none, field_more, zero_end, zero_is}
 use Rattle.numerals.proofs.fields.field_at.Goals as goal
 

@@ -1,9 +1,7 @@
 -- `put_field` puts the digits and behind them the byte that ends the number: at most 20 and one.
 -- Assumes nothing.
-use Prim.Native.Nat.{◌≤◌, ◌<◌}
+use Prim.Native.Nat.{◌<◌}
 use native.Mathlib.Omega.{arith}
-use lib.ListN.{length}
-use Rattle.numerals.specs.Decimal.{decimal}
 use Rattle.numerals.proofs.DecimalLaws.{decimal_short}
 use Rattle.numerals.proofs.PutLaws.{put_length, put_end}
 use Rattle.numerals.proofs.writing.put_field.Goals as goal

@@ -1,4 +1,3 @@
-use Prim.Native.Nat.{◌-◌}
 use native.Mathlib.Omega.{arith}
 use Rattle.numerals.proofs.FieldWalk.{fields_start, fields_next, fields_end}
 use Rattle.numerals.proofs.writing.put_fields.Goals as goal

@@ -1,11 +1,8 @@
 -- `put_line` puts the key and behind it the numbers, where there is room for them; else nothing.
 -- Assumes nothing.
-use Prim.Native.Nat.{◌+◌, ◌*◌, ◌≤◌}
 use mathlib.Core.Path.{sym}
 use native.Mathlib.Omega.{arith}
-use lib.ListN.{length}
 use Rattle.laws.proofs.Guards.{found}
-use Rattle.numerals.specs.Put.{field_room}
 use Rattle.numerals.proofs.FieldWalk.{has_room, line_none, line_whole}
 use Rattle.numerals.proofs.PutLaws.{put_length, put_same, put_nothing, put_then}
 use Rattle.numerals.proofs.writing.put_line.Goals as goal

@@ -2,7 +2,6 @@
 -- The invariant: with `count` of them stored, the others are the nearest days before d that serve; and the day right before d carries no
 -- event.
 -- Assumes nothing.
-use Prim.Native.Nat.{◌-◌}
 use Rattle.references.specs.ReferenceDays.{free_in}
 use Rattle.references.proofs.ReferenceLaws.{Walk}
 use Rattle.references.proofs.search.nearest_before.Given as goal

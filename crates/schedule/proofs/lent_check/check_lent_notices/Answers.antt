@@ -1,4 +1,3 @@
-use Prim.Native.Nat.{◌-◌}
 use Rattle.laws.proofs.Guards.{found}
 use Rattle.schedule.proofs.Walk.{walk_start, walk_stop, walk_fits, walk_next, walk_done}
 use Rattle.schedule.proofs.lent_check.check_lent_notices.Goals as goal
