@@ -45,7 +45,7 @@ fn is_split(w: Winter, day: u32, start: u32) -> bool
 // The hours of the event from start to end - 1 on a day: three warm-up hours before a morning event, two before an evening event, in
 // elapsed hours.
 pub(crate) fn hours_of(w: Winter, day: u32, start: u32, end: u32) -> Hours
-    requires w_value { wrong_winter w ≡ false }
+    requires right_winter { wrong_winter w ≡ false }
     requires spans { Spans start end }
     ensures { HoursFor w day start end result }
 {

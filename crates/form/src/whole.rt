@@ -79,7 +79,7 @@ fn rest_of(text: &[u8], winter: u32, price: u32, events: u32, at: usize, book: &
 // Whether a text has the form. On the way the numbers of its notices are put at the front of the list and its readings at their hours in the
 // book, up to what breaks the form if anything does; what has no room there is left out, and what the text does not list stays as it was.
 pub fn read_text(text: &[u8], list: &mut [u32], book: &mut [u32]) -> Form
-    ensures result_value { form_paper result ≡ form_answer text.now }
+    ensures value { form_paper result ≡ form_answer text.now }
     ensures list_after { list.new ≡ sets list.old 0 (notices_said text.now) }
     ensures book_after { book.new ≡ book_in (reads_said text.now) book.old }
 {

@@ -18,14 +18,14 @@ returns-then-text-gt65536 c =
 pub returns-in-Broken : goal.returns-in-Broken
 returns-in-Broken c =
     let a = c.args in
-    let is = sym (form_is _ _ c.read_text.ensures.result_value) ∙ c.in-Broken.is in
+    let is = sym (form_is _ _ c.read_text.ensures.value) ∙ c.in-Broken.is in
     let both = answers a.text.now a.out.now c.if-out-lt20480.false (form_refused a.text.now c.if-text-gt65536.false _ is) c.refuse-in-Broken.ensures in
     record { value = both.0; out_after = both.1 }
 
 pub returns-in-Whole : goal.returns-in-Whole
 returns-in-Whole c =
     let a = c.args in
-    let is = sym (form_is _ _ c.read_text.ensures.result_value) ∙ c.in-Whole.is in
+    let is = sym (form_is _ _ c.read_text.ensures.value) ∙ c.in-Whole.is in
     let both = by_arrays a.text.now a.out.now c.if-out-lt20480.false c.if-text-gt65536.false _ is c.read_text.ensures.list_after c.read_text.ensures.book_after
     c.print_formed.ensures in
     record { value = both.0; out_after = both.1 }
