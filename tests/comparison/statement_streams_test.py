@@ -10,6 +10,7 @@ import subprocess
 import time
 from threading import Timer
 
+import reach
 from cases.checks import shown
 from cases.statement_runs import program_words, said
 from cases.statement_texts import SAMPLE, SMALL, parts_of_size

@@ -8,6 +8,7 @@ list is listed. The last line printed is "N passed, M failed".
 import re
 from functools import partial
 
+import reach
 from common.harness import ROOT, Failure, run_tests
 from sources import (
     PATH, QUOTED, at, check_none, crates, definitions, edits, functions, laws, public_names,

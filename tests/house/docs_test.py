@@ -7,6 +7,7 @@ The last line printed is "N passed, M failed".
 import re
 from functools import partial
 
+import reach
 from common.harness import ROOT, Failure, run_tests
 from sources import (
     PATH, QUOTED, at, check_none, crates, quoted, rows, sections, tree,

@@ -14,6 +14,7 @@ from functools import cache, partial
 from itertools import zip_longest
 from string import Template
 
+import reach
 from common.c_programs import (
     CROSS_COMPILER, CROSS_RUN, HEADER, STRICT, archive, build_delivered, build_sanitized,
 )

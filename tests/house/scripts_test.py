@@ -12,6 +12,7 @@ import signal
 import subprocess
 import time
 
+import reach
 from common.harness import ROOT, SECONDS_ALLOWED, Failure, ended, run, run_tests, scratch
 from tiny import Tiny, ends_of
 

@@ -6,6 +6,7 @@ that it does not know. The last line printed is "N passed, M failed".
 
 import re
 
+import reach
 from common.harness import ROOT, Failure, run_tests
 from sources import (
     at, check_none, crates, definitions, files_of, functions, laws, lines_of,
