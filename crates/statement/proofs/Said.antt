@@ -1,12 +1,13 @@
 -- The statement of what was read is that of all that the reader had.
 -- Assumes nothing.
-use Rattle.std.proofs.Common.{◌≡◌, ℕ, ◌+◌, ◌≤◌, ◌<◌, Bool, true, false, cond, ltb, List, [], ◌++◌, None, Some, Ok, Err, IfSome, OnOk, arith, length, take, drop, refl, ap, ◌∙◌, sym, subst, append-nil, length-append, le-ltb, ltb-true, ltb-false}
+use Rattle.std.proofs.Common.{◌≡◌, ℕ, ◌≤◌, ◌<◌, Bool, true, false, ltb, List, [], ◌++◌, None, Some, Ok, Err, IfSome, OnOk, arith, length, take, refl, ap, ◌∙◌, sym, subst, append-nil, length-append, ltb-true, ltb-false}
 use Rattle.std.proofs.Math.Seq.{take-append_seam}
 use Rattle.std.specs.declared.option.Option.{Option}
 use Rattle.std.specs.declared.result.Result.{Result}
 use Rattle.std.specs.Io.KnownBytes.{Appends, Consumes, IsAtEnd}
 use Rattle.text.specs.Statement.{statement_of, answer_room, answered, answered_in}
 use Rattle.text.proofs.StatementLaws.{long_refused}
+use Rattle.text.proofs.Told.{answer_there}
 
 -- a text that is too long has the statement of its front that is
 pub same_refused : (s t : List ℕ) → 65536 < length s → 65536 < length t → statement_of s ≡ statement_of t
@@ -29,12 +30,9 @@ said_for_all (Some s) (Some rest) c d front p end w = subst (λ t. Appends c d (
 
 -- an output with room holds the statement at its front
 pub holds_statement : (s out after : List ℕ) (n : ℕ) → answer_room ≤ length out → n ≡ answered s out → after ≡ answered_in s out → take n after ≡ statement_of s
-unfolding answered answered_in
 holds_statement s out after n room e f =
-    let count : n ≡ length (statement_of s) = e ∙ ap (λ b. cond b 0 (length (statement_of s))) (le-ltb (length out) answer_room room) in
-    let front : after ≡ statement_of s ++ drop (length (statement_of s)) out
-    = f ∙ ap (λ b. cond b out (statement_of s ++ drop (length (statement_of s)) out)) (le-ltb (length out) answer_room room) in
-    ap (λ x. take x after) count ∙ ap (take (length (statement_of s))) front ∙ take-append_seam (statement_of s) _
+    let told = answer_there s out room in
+    ap (λ x. take x after) (e ∙ told.0) ∙ ap (take (length (statement_of s))) (f ∙ told.1) ∙ take-append_seam (statement_of s) _
 
 -- where the write of the statement of what was read went well, all of it was written
 pub said_on_ok : {T E : Type 0} (r : Result T E) (a b c d : Option (List ℕ)) (front bytes : List ℕ) → Consumes a b front → (length front < 65537 → IsAtEnd b) → bytes ≡ statement_of front
