@@ -1,8 +1,7 @@
 """C programs that call the library: how they are built and run.
 
 The delivered archive is x86-64 code, and a program with it runs through scripts/x86-64-run.
-Under sanitizers a program runs with the library compiled for this processor: in an emulator
-sanitizers do not run.
+Under sanitizers a program runs with the same code compiled once more, for them.
 """
 
 import os
@@ -23,9 +22,10 @@ SANITIZED = ("-fsanitize=address,undefined", "-fno-sanitize-recover=all", "-g", 
 
 def archive(crate="host"):
     """The archive that a crate was proved and written to; tests never prove by themselves."""
-    path = ROOT / "target" / "staticlib" / f"lib{crate}.a"
+    path = ROOT / "crates" / crate / "out" / f"lib{crate}.a"
     if not path.is_file():
-        raise Failure(f"there is no {path.relative_to(ROOT)}: rt staticlib {crate} writes it")
+        made_by = f"scripts/prove --library {crate}"
+        raise Failure(f"there is no {path.relative_to(ROOT)}: {made_by} proves and writes it")
     return path
 
 
@@ -41,8 +41,8 @@ def build_delivered(standard, sources, program, crate="host"):
 
 
 def build_sanitized(standard, sources, program):
-    """Builds a program for this processor, in which all that it and the library read and write
-    is checked, and gives it."""
+    """Builds a program in which all that it and the library read and write is checked, and
+    gives it."""
     archive()
     library = program.with_name("libsanitized.a")
     run(NATIVE_LIBRARY, "--sanitized", library)

@@ -5,6 +5,7 @@ that it does not know. The last line printed is "N passed, M failed".
 """
 
 import re
+from functools import cache
 
 import reach
 from common.harness import ROOT, Failure, run_tests
@@ -53,18 +54,28 @@ def check_folders():
     check_none(sorted(folders ^ set(crates())), "in crates/ or in crates.txt alone")
 
 
+@cache
+def exported(crate):
+    """What a crate's lib.rt uses publicly, as pairs of a module and a name."""
+    library = ROOT / "crates" / crate / "src" / "lib.rt"
+    text = library.read_text() if library.is_file() else ""
+    uses = re.findall(r"^pub use (\w+)::(?:(\w+)|\{([^}]*)\});", text, re.M)
+    return {
+        (module, name.strip()) for module, one, some in uses for name in (one or some).split(",")
+    }
+
+
 def check_exports():
     """A public function can be called from outside: it stands in lib.rt, or lib.rt uses it, or
     its type, publicly. All others are pub(crate)."""
     if not all_functions():
         raise Failure("there is no public function")
-    found = []
-    for crate, function in all_functions():
-        library = ROOT / "crates" / crate / "src" / "lib.rt"
-        text = library.read_text() if library.is_file() else ""
-        use = f"pub use {function.module}::{function.name.split('::')[0]};"
-        if function.module != "lib" and use not in text.splitlines():
-            found.append(f"{function.place} {function.name}")
+    found = [
+        f"{function.place} {function.name}"
+        for crate, function in all_functions()
+        if function.module != "lib"
+        and (function.module, function.name.split("::")[0]) not in exported(crate)
+    ]
     check_none(found, "public functions that lib.rt does not export")
 
 
