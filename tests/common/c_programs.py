@@ -40,23 +40,34 @@ def build_delivered(standard, sources, program, crate="host"):
     return program
 
 
+@cache
+def built_once(name, build):
+    """What several test files ask: it is built once for all that tests/run runs, in the folder
+    that it names."""
+    path = Path(os.environ.get("TESTS_BUILT") or scratch()) / name
+    if not path.exists():
+        made = path.with_suffix(f".{os.getpid()}")
+        build(made)
+        made.replace(path)
+    return path
+
+
+def build_checked_library(library):
+    """Builds the library of which all that it reads and writes is checked."""
+    archive()
+    run(NATIVE_LIBRARY, "--sanitized", library)
+
+
 def build_sanitized(standard, sources, program):
     """Builds a program in which all that it and the library read and write is checked, and
     gives it."""
-    archive()
-    library = program.with_name("libsanitized.a")
-    run(NATIVE_LIBRARY, "--sanitized", library)
+    library = built_once("libsanitized.a", build_checked_library)
     run("cc", *words_for(standard), *SANITIZED, *sources, library, "-o", program)
     return program
 
 
 @cache
 def driver(name, *others, crate="host"):
-    """A driver of the comparison, which several test files ask: it is built once for all that
-    tests/run runs, in the folder that it names."""
-    program = Path(os.environ.get("TESTS_BUILT") or scratch()) / name
-    if not program.exists():
-        sources = [DRIVERS / f"{part}.c" for part in (name, *others)]
-        made = build_delivered("c99", sources, program.with_suffix(f".{os.getpid()}"), crate)
-        made.replace(program)
-    return program
+    """A driver of the comparison."""
+    sources = [DRIVERS / f"{part}.c" for part in (name, *others)]
+    return built_once(name, lambda made: build_delivered("c99", sources, made, crate))

@@ -25,7 +25,9 @@ LEAST_EDITS = 2
 WITHOUT_EDITS = {"probe"}
 
 # Words in backquotes that name nothing of the tree: the language's, the toolchain's, C's, a text's.
-OTHER_WORDS = {"requires", "ensures", "rt", "rt ci", "read", "write", "read="}
+OTHER_WORDS = {
+    "requires", "ensures", "rt", "rt ci", "rt check", "rt must-fail NAME", "read", "write", "read=",
+}
 
 # Names in a row, one after the other, with the file that they are in right behind them.
 BESIDE = re.compile(r"((?:`[^`./]+`(?:, | and )?)+) (?:of |\()`([\w/+]+\.antt)`")
