@@ -40,7 +40,6 @@ def build_delivered(standard, sources, program, crate="host"):
     return program
 
 
-@cache
 def built_once(name, build):
     """What several test files ask: it is built once for all that tests/run runs, in the folder
     that it names."""

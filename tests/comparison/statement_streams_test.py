@@ -1,10 +1,12 @@
 """Tests how the program `statement` takes its text and gives its statement away.
 
 A text may come in any pieces, slowly, from a pipe or from a file; the statement may go into
-a pipe or a file. It must be the second program's whatever the way (rule 8.18).
+a pipe or a file. It must be the second program's whatever the way (rule 8.18). Where it cannot be
+read or written the program says so.
 The last line printed is "N passed, M failed".
 """
 
+import os
 import random
 import subprocess
 import time
@@ -14,7 +16,7 @@ import reach
 from cases.checks import shown
 from cases.statement_runs import program_words, said
 from cases.statement_texts import SAMPLE, SMALL, parts_of_size
-from common.harness import SECONDS_ALLOWED, Failure, run_tests, scratch
+from common.harness import SECONDS_ALLOWED, Failure, complaint, ended, run_tests, scratch
 from second.statements import LONGEST_TEXT, statement
 
 SEED = 2026
@@ -126,6 +128,24 @@ def check_file_position():
         check_statement(SAMPLE, said(stdin=source))
 
 
+def check_failed(what, done):
+    """The program ended with exit status 1 and a word."""
+    if done.returncode != 1 or not done.stderr:
+        raise Failure(f"{what}: {complaint(done)}")
+
+
+def check_failures():
+    """A folder cannot be read, and a full device takes no byte."""
+    folder = os.open(scratch(), os.O_RDONLY)
+    done = ended(*program_words(), stdin=folder)
+    os.close(folder)
+    check_failed("a read that fails", done)
+    if done.stdout:
+        raise Failure(f"a read that fails: it prints {shown(done.stdout)}")
+    with open("/dev/full", "wb") as full:
+        check_failed("a write that fails", ended(*program_words(), input=SAMPLE, stdout=full))
+
+
 TESTS = [
     ("pieces of 1 to 7 bytes", check_small_pieces),
     ("pieces of 511 to 65,537 bytes", check_large_pieces),
@@ -133,6 +153,7 @@ TESTS = [
     ("no text", check_no_text),
     ("from a file into a file", check_files),
     ("from the middle of a file", check_file_position),
+    ("a read that fails, and a write", check_failures),
 ]
 
 
