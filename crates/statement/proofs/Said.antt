@@ -1,9 +1,8 @@
 -- The statement of what was read is that of all that the reader had.
 -- Assumes nothing.
-use Rattle.std.proofs.Common.{◌≡◌, ℕ, ◌≤◌, ◌<◌, Bool, true, false, ltb, List, [], ◌++◌, None, Some, Ok, Err, IfSome, OnOk, arith, length, take, refl, ap, ◌∙◌, sym, subst, append-nil, length-append, ltb-true, ltb-false}
+use Rattle.std.proofs.Common.{◌≡◌, ℕ, ◌≤◌, ◌<◌, Bool, true, false, ltb, List, [], ◌++◌, None, Some, IfSome, arith, length, take, refl, ap, ◌∙◌, sym, subst, append-nil, length-append, ltb-true, ltb-false}
 use Rattle.std.proofs.Math.Seq.{take-append_seam}
 use Rattle.std.specs.declared.option.Option.{Option}
-use Rattle.std.specs.declared.result.Result.{Result}
 use Rattle.std.specs.Io.KnownBytes.{Appends, Consumes, IsAtEnd}
 use Rattle.text.specs.Statement.{statement_of, answer_room, answered, answered_in}
 use Rattle.text.proofs.StatementLaws.{long_refused}
@@ -33,9 +32,3 @@ pub holds_statement : (s out after : List ℕ) (n : ℕ) → answer_room ≤ len
 holds_statement s out after n room e f =
     let told = answer_there s out room in
     ap (λ x. take x after) (e ∙ told.0) ∙ ap (take (length (statement_of s))) (f ∙ told.1) ∙ take-append_seam (statement_of s) _
-
--- where the write of the statement of what was read went well, all of it was written
-pub said_on_ok : {T E : Type 0} (r : Result T E) (a b c d : Option (List ℕ)) (front bytes : List ℕ) → Consumes a b front → (length front < 65537 → IsAtEnd b) → bytes ≡ statement_of front
-    → OnOk r (Appends c d bytes) → OnOk r (IfSome a (λ text. Appends c d (statement_of text)))
-said_on_ok (Ok x) a b c d front bytes p end e w = said_for_all a b c d front p end (subst (Appends c d) e w)
-said_on_ok (Err x) a b c d front bytes p end e w = tt

@@ -7,4 +7,4 @@ use Rattle.statement.proofs.read_front.Goals as goal
 pub loop-filled-preserved : goal.loop-filled-preserved
 loop-filled-preserved g c =
     let filled = c.loop-filled.invariant in
-    (search rules, search rules, taken_more _ _ _ _ _ _ _ _ filled.1 c.in_ok-count.ensures.bound.0 filled.2 c.in_ok-count.ensures.bytes.0)
+    (search rules, search rules, taken_more _ _ _ _ _ _ _ _ filled.1 c.in-Ok.ensures.bound.0 filled.2 c.in-Ok.ensures.bytes.0)
