@@ -71,7 +71,8 @@ module _ (values : List ℕ) where
       (either_order at to)
 
 -- two lists of values that agree on some places
-pub fault_agrees : (one other places : List ℕ) → Every (λ (p : ℕ). reading_at one p ≡ reading_at other p) places → first_fault one places ≡ first_fault other places
+pub fault_agrees : (one other places : List ℕ) → Every (λ (p : ℕ). reading_at one p ≡ reading_at other p) places
+    → first_fault one places ≡ first_fault other places
 unfolding first_fault
 fault_agrees one other [] a = refl
 fault_agrees one other (p ∷ places) a = rw (a.0, fault_agrees one other places a.1)

@@ -70,7 +70,8 @@ module _ (w p : ℕ) (book l out : List ℕ) (ok : (settlement w book p l (lengt
   first_run_within_half k h = rw (cents_run_is 0 k (omega arith), energy_run_is 0 k (omega arith)) (first_run_near p (energy_at events) k)
 
   -- rule 10.8: its cents are the whole way from the rounded worth before it to the rounded worth with it, and nothing was cut off
-  pub no_line_negative : (k : ℕ) → k < n → rounded_worth p (run_of (energy_in output) 0 k) + cents_in output k ≡ rounded_worth p (run_of (energy_in output) 0 (suc k))
+  pub no_line_negative : (k : ℕ) → k < n → rounded_worth p (run_of (energy_in output) 0 k) + cents_in output k
+      ≡ rounded_worth p (run_of (energy_in output) 0 (suc k))
   no_line_negative k h =
       let before = energy_run_is 0 k (omega arith) ∙ run_first (energy_at events) k in
       let with_it = energy_run_is 0 (suc k) (omega arith) ∙ run_first (energy_at events) (suc k) in

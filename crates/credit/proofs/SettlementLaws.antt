@@ -59,7 +59,8 @@ module _ (w p : ℕ) (book l : List ℕ) (room : ℕ) where
     call_refused = sym (settled_by_lem is_refused_lem ∙ rw (← refusal_is) refl)
 
   -- of the output's length only its room for the lines counts
-  pub settled_room : (other : ℕ) → line_numbers * count_of l ≤ room → line_numbers * count_of l ≤ other → settlement w book p l room ≡ settlement w book p l other
+  pub settled_room : (other : ℕ) → line_numbers * count_of l ≤ room → line_numbers * count_of l ≤ other
+      → settlement w book p l room ≡ settlement w book p l other
   unfolding settlement
   settled_room other h g = rw (refusal_room w (length book) p l room other h g)
 
@@ -72,7 +73,8 @@ module _ (w p : ℕ) (book l out : List ℕ) where
       → out ≡ written w book p l out
   call_unwritten number e f = sym (written_by_lem (is_refused_lem w p book l (length out) number e f))
 
-  pub written_accepted : is_refusal (refusal_of w (length book) p l (length out)) ≡ false → written w book p l out ≡ lines_in p (event_at w book l) (count_of l) out
+  pub written_accepted : is_refusal (refusal_of w (length book) p l (length out)) ≡ false
+      → written w book p l out ≡ lines_in p (event_at w book l) (count_of l) out
   unfolding written written_by
   written_accepted e = rw e
 

@@ -59,5 +59,6 @@ module _ (text : List ℕ) (ok : text_refusal text ≡ accepted) where
       let d = cents (winter_said text) (price_said text) (book_said text) (notices_said text) (room text ok) (standing text ok) in
       rw (d.energies_add_up, d.cents_add_up) d
 
-  pub cents_text : Demand3 (shown_price (statement_of text)) (in_statement (statement_of text)) (shown_energy (statement_of text)) (shown_total (statement_of text))
+  pub cents_text : Demand3 (shown_price (statement_of text)) (in_statement (statement_of text)) (shown_energy (statement_of text))
+      (shown_total (statement_of text))
   cents_text = rw (price_shown text ok, energy_shown text ok, total_shown text ok) (demand_3_same (printed_same text ok) of_output)

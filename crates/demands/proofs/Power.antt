@@ -97,7 +97,8 @@ module _ (winter : ℕ) (book list references : List ℕ) (room totals : ℕ) (s
   pub ready : AllReady list references room n
   ready = settles_ready settles
 
-  credit_so : PowerCredit (sum_to (reduction_at events) n) (sum_to (settled_at events) n) (credit_of (sum_to (reduction_at events) n) (sum_to (settled_at events) n))
+  credit_so : PowerCredit (sum_to (reduction_at events) n) (sum_to (settled_at events) n)
+      (credit_of (sum_to (reduction_at events) n) (sum_to (settled_at events) n))
   credit_so =
       record {
         none_settled = λ z. sym (credit_none (sum_to (reduction_at events) n) (sum_to (settled_at events) n) z);

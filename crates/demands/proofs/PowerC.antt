@@ -41,7 +41,8 @@ module _ (winter : ℕ) (lent_book lent_list lent_references out totals : List �
   settled = power_settled winter lent_book lent_list lent_references (length out) (length totals)
 
   -- DEMAND 1
-  pub power_answers_c : Tells (power_table winter (length (decoded lent_book)) (decoded lent_list) (decoded lent_references) (length out / 8) (length totals / 8))
+  pub power_answers_c : Tells (power_table winter (length (decoded lent_book)) (decoded lent_list) (decoded lent_references) (length out / 8)
+      (length totals / 8))
       (answer / 65536) (answer % 65536)
   power_answers_c =
       let told = power_told winter lent_book lent_list lent_references out totals in
@@ -133,5 +134,6 @@ module _ (winter : ℕ) (lent_book lent_list lent_references out totals : List �
         sheet_demand winter book list references (length out / 8) (length totals / 8) settles (power_in_bytes n bytes after) refl line_tells
         (back_total 0 (sum_to (reduction_at events) n) (omega arith) (ap (λ (s : PowerSettlement). s.sum) answer_is) (omega (arith, fits.sum_most, fits.few)))
         (back_total 1 (sum_to (settled_at events) n) (omega arith) (ap (λ (s : PowerSettlement). s.settled) answer_is) (omega (arith, fits.few)))
-        (back_total 2 (credit_of (sum_to (reduction_at events) n) (sum_to (settled_at events) n)) (omega arith) (ap (λ (s : PowerSettlement). s.cents) answer_is)
+        (back_total 2 (credit_of (sum_to (reduction_at events) n) (sum_to (settled_at events) n)) (omega arith)
+            (ap (λ (s : PowerSettlement). s.cents) answer_is)
         (omega (arith, credit_most (sum_to (reduction_at events) n) (sum_to (settled_at events) n) fits)))

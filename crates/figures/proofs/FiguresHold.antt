@@ -71,18 +71,25 @@ use Rattle.figures.specs.ScheduleFigures.{mornings, hundred_hours, schedule_figu
 use Rattle.figures.specs.TextFigures.{bytes_in, sample_input, sample_output, twice, text_figures}
 
 pub figures_hold : map (λ (f : Figure). f.paper) figures ≡ map (λ (f : Figure). f.computed) figures
-unfolding calendar_figures also_excluded also_from easter_sunday refuse no_easter_year easter_t easter_in_book among good_friday easter_monday excluded leap days winter_of
-    wrong_winter no_day schedule_figures mornings hundred_hours check_answer check_table bad_list rows_at notice_rows day_rows list_rows first_of sofar_at after_notice
+unfolding calendar_figures also_excluded also_from easter_sunday refuse no_easter_year easter_t easter_in_book among good_friday easter_monday excluded leap
+    days winter_of
+    wrong_winter no_day schedule_figures mornings hundred_hours check_answer check_table bad_list rows_at notice_rows day_rows list_rows first_of sofar_at
+        after_notice
     notice_at hours_of named figures_of outside_period on_excluded_day barred_weekend is_hour some_below touches outside no_hours no_band
     across_band bad_length starts_before same_band over_limit no_winter
-    in_period first_weekday weekday weekend energy_figures sample_day sample_book sample_list event_answer event_rows line_of asked_by warm_up hours_from needed places_on
+    in_period first_weekday weekday weekend energy_figures sample_day sample_book sample_list event_answer event_rows line_of asked_by warm_up hours_from
+        needed places_on
     forward_day back_day sunday_from clocks_forward clocks_back has_hour elapsed warms_up those
-    first_fault fault_of energy_of sum_over trimmed_at trimmed_of sum_of smallest_of largest_of spared_of above_limit trial_of reference_days before free_in has_each serves
-    masks_of masks_to with_hours marks_none hours_mask money_figures settlement settled_by written written_by refusal_of settlement_table call_rows book_rows bad_book
+    first_fault fault_of energy_of sum_over trimmed_at trimmed_of sum_of smallest_of largest_of spared_of above_limit trial_of reference_days before free_in
+        has_each serves
+    masks_of masks_to with_hours marks_none hours_mask money_figures settlement settled_by written written_by refusal_of settlement_table call_rows book_rows
+        bad_book
     bad_price short_output rows_to line_at cents_at sum_to event_at rounded_worth power_figures power_settlement power_settled_by
-    power_written power_written_by power_refusal power_table power_call_rows short_room wrong_references reference_rows power_line_at reduced_at reduced_of event_of spared_by
+    power_written power_written_by power_refusal power_table power_call_rows short_room wrong_references reference_rows power_line_at reduced_at reduced_of
+        event_of spared_by
     needed_of run reduction_of credit_of rate_of text_figures bytes_in sample_input sample_output twice statement_of text_refusal text_table
-    value_rows told_bytes settled_bytes form_of top_of rest_of notices_said reads_from reads_said keyed_at field_at field_from digits_from end_from is_digit word_at word_from
+    value_rows told_bytes settled_bytes form_of top_of rest_of notices_said reads_from reads_said keyed_at field_at field_from digits_from end_from is_digit
+        word_at word_from
     row_at lines_end lines_said event_line_at head_at read_line_at flatten misplaced_in misplaced_by book_days book_in statement_lines refused_lines notice_line
     bytes_of_lines line_bytes field_bytes decimal digits_in check_call decoded four_bytes_at four_bytes lent_bytes
 figures_hold = refl

@@ -101,7 +101,8 @@ first_broken (r ∷ rows) e = here_or_later r rows (first_broken rows) r.broken 
 
 -- a table in two parts: a first part that refuses decides, past one that is kept the second does, and what they answer is all that counts
 stops_here : (r : Row) (rows more : List Row) → (is_refusal (first_of rows) ≡ true → first_of rows ≡ first_of (rows ++ more))
-    → (b : Bool) → is_refusal (refuse b (told_by r) (first_of rows)) ≡ true → refuse b (told_by r) (first_of rows) ≡ refuse b (told_by r) (first_of (rows ++ more))
+    → (b : Bool) → is_refusal (refuse b (told_by r) (first_of rows)) ≡ true
+    → refuse b (told_by r) (first_of rows) ≡ refuse b (told_by r) (first_of (rows ++ more))
 unfolding refuse
 stops_here r rows more rest true e = refl
 stops_here r rows more rest false e = rest e

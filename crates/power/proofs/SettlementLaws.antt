@@ -69,11 +69,13 @@ module _ (w : ℕ) (book l references : List ℕ) (room totals : ℕ) where
   abbrev refusal : Answer
   refusal = power_refusal w (length book) l references room totals
 
-  pub settled_by_lem : is_refusal refusal ≡ true → power_settlement w book l references room totals ≡ power_refused_with refusal.number (get_or refusal.values 0 0)
+  pub settled_by_lem : is_refusal refusal ≡ true → power_settlement w book l references room totals
+      ≡ power_refused_with refusal.number (get_or refusal.values 0 0)
   unfolding power_settlement power_settled_by
   settled_by_lem e = rw e
 
-  pub settled_accepted : is_refusal refusal ≡ false → power_settlement w book l references room totals ≡ power_totals_of (reduced_at book l references) (count_of l)
+  pub settled_accepted : is_refusal refusal ≡ false → power_settlement w book l references room totals
+      ≡ power_totals_of (reduced_at book l references) (count_of l)
   unfolding power_settlement power_settled_by
   settled_accepted e = rw e
 
@@ -93,7 +95,8 @@ module _ (w : ℕ) (book l references : List ℕ) (room totals : ℕ) where
   settlement_bounded = by (is_refusal refusal) refl
     where
       by : (b : Bool) → is_refusal refusal ≡ b
-          → ((power_settlement w book l references room totals).number ≤ largest_number) × ((power_settlement w book l references room totals).place ≤ largest_place)
+          → ((power_settlement w book l references room totals).number ≤ largest_number)
+          × ((power_settlement w book l references room totals).place ≤ largest_place)
       by true q = rw (settled_by_lem q) (refusal_bounded w (length book) l references room totals)
       by false q = rw (settled_accepted q) (omega arith, omega arith)
 
@@ -109,12 +112,14 @@ module _ (w : ℕ) (book l references : List ℕ) (room totals : ℕ) where
     told_accepted z = rw (← e, z)
 
   -- a call that its winter or lengths refuse
-  pub call_refused : (number : ℕ) → refusal_at number 0 ≡ first_of (power_call_rows w (length book) (length l) room totals (length references)) → (number ≡ 0 → ⊥)
+  pub call_refused : (number : ℕ) → refusal_at number 0 ≡ first_of (power_call_rows w (length book) (length l) room totals (length references))
+      → (number ≡ 0 → ⊥)
       → power_refused_with number 0 ≡ power_settlement w book l references room totals
   call_refused number e f = told_settled number 0 (by_call w (length book) l references room totals number e f) f
 
   -- of the rooms only that they are large enough counts
-  pub settled_room : (other more : ℕ) → power_line_numbers * count_of l ≤ room → power_line_numbers * count_of l ≤ other → total_numbers ≤ totals → total_numbers ≤ more
+  pub settled_room : (other more : ℕ) → power_line_numbers * count_of l ≤ room → power_line_numbers * count_of l ≤ other → total_numbers ≤ totals
+      → total_numbers ≤ more
       → power_settlement w book l references room totals ≡ power_settlement w book l references other more
   unfolding power_settlement
   settled_room other more h g s t = rw (refusal_room w (length book) l references room other totals more h g s t)

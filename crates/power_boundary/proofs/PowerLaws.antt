@@ -91,14 +91,16 @@ module _ (w : ℕ) (book list references out totals : List ℕ)
   unfolding whole_power
   whole_is =
       rw (decoded_is book r.book_whole, decoded_is list r.list_whole, decoded_is references r.references_whole)
-      (settled_room w (numbers_in_whole book) (numbers_in_whole list) (numbers_in_whole references) (power_line_numbers * count_of (numbers_in_whole list)) total_numbers
+      (settled_room w (numbers_in_whole book) (numbers_in_whole list) (numbers_in_whole references)
+          (power_line_numbers * count_of (numbers_in_whole list)) total_numbers
       (length out / 8) (length totals / 8) (omega arith) (rw (whole_long list) r.lines_fit) (omega arith) (omega (arith, r.lengths.totals_for)))
 
   pub whole_power_lem : {answer : ℕ} {after after_totals : List ℕ}
       → PowerSettled w (numbers_in_whole book) (numbers_in_whole list) (numbers_in_whole references) out totals answer after after_totals
       → PowerCalled w book list references out totals answer after after_totals
   whole_power_lem s =
-      called_by w book list references out totals (whole_power w (numbers_in_whole book) (numbers_in_whole list) (numbers_in_whole references)) whole_is s.answer_is
+      called_by w book list references out totals (whole_power w (numbers_in_whole book) (numbers_in_whole list) (numbers_in_whole references)) whole_is
+          s.answer_is
       (rw (decoded_is book r.book_whole, decoded_is list r.list_whole, decoded_is references r.references_whole) s.bytes_are)
       s.totals_are
 

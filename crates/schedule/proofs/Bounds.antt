@@ -41,5 +41,6 @@ check_bounded w l q =
     (λ t. notices_bounded w f l t.1.1.0)
 
 -- the same of a verdict
-pub verdict_bounded : (w q : ℕ) (l : List ℕ) (v : Verdict) → verdict_paper v ≡ check_answer w q l → (number_of v ≤ largest_number) × (place_of v ≤ largest_place)
+pub verdict_bounded : (w q : ℕ) (l : List ℕ) (v : Verdict) → verdict_paper v ≡ check_answer w q l
+    → (number_of v ≤ largest_number) × (place_of v ≤ largest_place)
 verdict_bounded w q l v e = subst Bounded (sym e) (check_bounded w l q)

@@ -46,7 +46,8 @@ front_grown k m n buf part h f =
     ∙ take-append-add (take k buf) part n
 
 -- the same of what was taken from a reader
-pub taken_more : (a b c : Option (List ℕ)) (k m n : ℕ) (buf part : List ℕ) → k ≤ length buf → n ≤ length part → Consumes a b (take k buf) → Consumes b c (take n part)
+pub taken_more : (a b c : Option (List ℕ)) (k m n : ℕ) (buf part : List ℕ) → k ≤ length buf → n ≤ length part → Consumes a b (take k buf)
+    → Consumes b c (take n part)
     → Consumes a c (take (k + n) (put_mid k m buf part))
 taken_more a b c k m n buf part h f p q = subst (Consumes a c) (sym (front_grown k m n buf part h f)) (consumes_more a b c _ _ p q)
 

@@ -59,7 +59,8 @@ module _ (s : List ℕ) where
     unfolding text_refusal text_table
     broken_told line e = rw e (row_goes _ _ (le-ltb most_bytes (length s) h) (row_stops _ _ refl))
 
-    values_told : (f : Shape) → form_of s ≡ form.Whole f → first_of (value_rows (winter_said s) (misplaced_said s) (price_said s) (notices_said s)) ≡ text_refusal s
+    values_told : (f : Shape) → form_of s ≡ form.Whole f → first_of (value_rows (winter_said s) (misplaced_said s) (price_said s) (notices_said s))
+        ≡ text_refusal s
     unfolding text_refusal text_table
     values_told f e = row_goes _ _ (le-ltb most_bytes (length s) h) (row_goes _ _ (ap is_broken e) refl)
 

@@ -73,7 +73,8 @@ module _ (bytes : List ℕ) (from long : ℕ) (there : from + long ≤ length by
   part_long = simp (length-take, length-drop) (omega arith)
 
   -- a number in a part that begins with a whole number is one of all
-  pub number_in : (j k : ℕ) → length bytes % 4 ≡ 0 → from ≡ 4 * j → 4 * k + 4 ≤ long → number_at (take long (drop from bytes)) k ≡ get_or (decoded bytes) (j + k) 0
+  pub number_in : (j k : ℕ) → length bytes % 4 ≡ 0 → from ≡ 4 * j → 4 * k + 4 ≤ long
+      → number_at (take long (drop from bytes)) k ≡ get_or (decoded bytes) (j + k) 0
   unfolding number_at
   number_in j k e f h =
       let at : from + 4 * k ≡ 4 * (j + k) = omega arith in

@@ -22,4 +22,7 @@ pub returns : goal.returns
 returns c =
     let there = found c.no_part.ensures c.if-no_part.false in
     let start = c.length_of-start.result in
-    record { contents = part_given _ _ _ start (start + day_hours) there c.length_of-start.ensures refl; place = (refl, omega (arith, start_given _ _ _ there)) }
+    record {
+      contents = part_given _ _ _ start (start + day_hours) there c.length_of-start.ensures refl;
+      place = (refl, omega (arith, start_given _ _ _ there));
+    }

@@ -13,7 +13,11 @@ use Rattle.credit.proofs.call.settle.Goals as goal
 
 pub returns-then-number-ne0 : goal.returns-then-number-ne0
 returns-then-number-ne0 c =
-    let said = c.call_refusal-number.ensures in record { value = c.refused_with.ensures ∙ call_refused _ _ c.args.book.now _ (length c.args.out.now) _ said c.if-number-ne0.true; out_after = call_unwritten _ _ c.args.book.now _ c.args.out.now _ said c.if-number-ne0.true }
+    let said = c.call_refusal-number.ensures in
+    record {
+      value = c.refused_with.ensures ∙ call_refused _ _ c.args.book.now _ (length c.args.out.now) _ said c.if-number-ne0.true;
+      out_after = call_unwritten _ _ c.args.book.now _ c.args.out.now _ said c.if-number-ne0.true;
+    }
 
 pub returns-in_default : goal.returns-in_default
 returns-in_default c =
@@ -28,4 +32,8 @@ settle_in-requires c =
 pub returns : goal.returns
 returns c =
     let is = winter_known _ _ _ c.in-Is.is c.winter_of-known.ensures in
-    let notices = refusal_notices _ (length c.args.book.now) _ c.args.list.now _ _ c.call_refusal-number.ensures c.if-number-ne0.false in record { value = c.settle_in.ensures.value ∙ settled_in _ _ c.args.book.now c.args.list.now _ is.0 is.1 _ notices; out_after = c.settle_in.ensures.out_after ∙ written_in _ _ c.args.book.now c.args.list.now _ is.0 is.1 c.args.out.now notices }
+    let notices = refusal_notices _ (length c.args.book.now) _ c.args.list.now _ _ c.call_refusal-number.ensures c.if-number-ne0.false in
+    record {
+      value = c.settle_in.ensures.value ∙ settled_in _ _ c.args.book.now c.args.list.now _ is.0 is.1 _ notices;
+      out_after = c.settle_in.ensures.out_after ∙ written_in _ _ c.args.book.now c.args.list.now _ is.0 is.1 c.args.out.now notices;
+    }

@@ -9,7 +9,8 @@ use Rattle.dates.proofs.dates.book_day_of.Given as goal
 
 abbrev pub invariant-loop-i : goal.invariant-loop-i
 invariant-loop-i l =
-    (l.i ≤ 5) × (l.first ≤ 31 * l.i) × (book_day_from (drop l.i (month_lengths l.winter)) l.now l.first l.month l.day ≡ book_day_from (month_lengths l.winter) november 0 l.month l.day)
+    (l.i ≤ 5) × (l.first ≤ 31 * l.i) × (book_day_from (drop l.i (month_lengths l.winter)) l.now l.first l.month l.day
+        ≡ book_day_from (month_lengths l.winter) november 0 l.month l.day)
 
 abbrev pub decreases-loop-i : goal.decreases-loop-i
 decreases-loop-i l = 5 - l.i

@@ -11,14 +11,17 @@ returns-in_default c =
 pub returns-in_default-row_at : goal.returns-in_default-row_at
 returns-in_default-row_at c =
     let there = sym c.word_at.ensures ∙ c.in-To.is in
-    let both = event_broken _ _ _ _ there c.row_at.ensures.out_after (sym c.in_default-row_at.is ∙ c.row_at.ensures.value) in record { value = both.0; list_after = both.1 }
+    let both = event_broken _ _ _ _ there c.row_at.ensures.out_after (sym c.in_default-row_at.is ∙ c.row_at.ensures.value) in
+    record { value = both.0; list_after = both.1 }
 
 pub returns-then-count-ne-EVENT_NUMBERS : goal.returns-then-count-ne-EVENT_NUMBERS
 returns-then-count-ne-EVENT_NUMBERS c =
     let there = sym c.word_at.ensures ∙ c.in-To.is in
-    let both = event_other _ _ _ _ there c.row_at.ensures.out_after (sym c.in-Of.is ∙ c.row_at.ensures.value) c.if-count-ne-EVENT_NUMBERS.true in record { value = both.0; list_after = both.1 }
+    let both = event_other _ _ _ _ there c.row_at.ensures.out_after (sym c.in-Of.is ∙ c.row_at.ensures.value) c.if-count-ne-EVENT_NUMBERS.true in
+    record { value = both.0; list_after = both.1 }
 
 pub returns : goal.returns
 returns c =
     let there = sym c.word_at.ensures ∙ c.in-To.is in
-    let both = event_is _ _ _ _ there c.row_at.ensures.out_after (sym c.in-Of.is ∙ c.row_at.ensures.value) c.if-count-ne-EVENT_NUMBERS.false in record { value = both.0; list_after = both.1 }
+    let both = event_is _ _ _ _ there c.row_at.ensures.out_after (sym c.in-Of.is ∙ c.row_at.ensures.value) c.if-count-ne-EVENT_NUMBERS.false in
+    record { value = both.0; list_after = both.1 }

@@ -11,9 +11,11 @@ returns-in_default c =
 pub returns-in_default-row_at : goal.returns-in_default-row_at
 returns-in_default-row_at c =
     let there = sym c.head_at.ensures ∙ c.in-Start.is in
-    let both = read_broken _ _ _ there (rw c.place_of.ensures.value at c.row_at.ensures.out_after) (sym c.in_default-row_at.is ∙ c.row_at.ensures.value) in record { value = both.0; book_after = both.1 }
+    let both = read_broken _ _ _ there (rw c.place_of.ensures.value at c.row_at.ensures.out_after) (sym c.in_default-row_at.is ∙ c.row_at.ensures.value) in
+    record { value = both.0; book_after = both.1 }
 
 pub returns : goal.returns
 returns c =
     let there = sym c.head_at.ensures ∙ c.in-Start.is in
-    let both = read_whole _ _ _ there (rw c.place_of.ensures.value at c.row_at.ensures.out_after) (sym c.in-Of.is ∙ c.row_at.ensures.value) in record { value = both.0; book_after = both.1 }
+    let both = read_whole _ _ _ there (rw c.place_of.ensures.value at c.row_at.ensures.out_after) (sym c.in-Of.is ∙ c.row_at.ensures.value) in
+    record { value = both.0; book_after = both.1 }

@@ -14,7 +14,12 @@ returns-then-refusal-ne0 c =
     let book = c.args.book.now in
     let list = c.args.list.now in
     let references = c.args.references.now in
-    let out = c.args.out.now in record { value = c.refused_with.ensures ∙ told_settled _ book list references (length out) total_numbers _ _ said refused; out_after = sym (written_by_lem _ book list references out total_numbers (told_refused _ book list references (length out) total_numbers _ _ said refused)) }
+    let out = c.args.out.now in
+    record {
+      value = c.refused_with.ensures ∙ told_settled _ book list references (length out) total_numbers _ _ said refused;
+      out_after = sym (written_by_lem _ book list references out total_numbers
+          (told_refused _ book list references (length out) total_numbers _ _ said refused));
+    }
 
 pub settle_accepted-requires : goal.settle_accepted-requires
 settle_accepted-requires c =
@@ -33,4 +38,8 @@ returns c =
     let list = c.args.list.now in
     let references = c.args.references.now in
     let out = c.args.out.now in
-    let none = told_accepted _ book list references (length out) total_numbers _ _ said c.if-refusal-ne0.false in record { value = c.settle_accepted.ensures.value ∙ sym (settled_accepted _ book list references (length out) total_numbers none); out_after = c.settle_accepted.ensures.out_after ∙ sym (written_accepted _ book list references out total_numbers none) }
+    let none = told_accepted _ book list references (length out) total_numbers _ _ said c.if-refusal-ne0.false in
+    record {
+      value = c.settle_accepted.ensures.value ∙ sym (settled_accepted _ book list references (length out) total_numbers none);
+      out_after = c.settle_accepted.ensures.out_after ∙ sym (written_accepted _ book list references out total_numbers none);
+    }

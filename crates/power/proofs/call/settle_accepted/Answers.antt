@@ -15,4 +15,7 @@ credit_of-cents-requires c =
 pub returns : goal.returns
 returns c =
     let count = c.count_in-count.ensures in
-    record { value = totals_are c.args.book.now _ _ _ (rw count at c.put_lines-sums.ensures.value) _ c.credit_of-cents.ensures; out_after = rw count at c.put_lines-sums.ensures.out_after }
+    record {
+      value = totals_are c.args.book.now _ _ _ (rw count at c.put_lines-sums.ensures.value) _ c.credit_of-cents.ensures;
+      out_after = rw count at c.put_lines-sums.ensures.out_after;
+    }

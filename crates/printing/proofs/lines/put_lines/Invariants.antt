@@ -10,7 +10,8 @@ use Rattle.printing.proofs.lines.put_lines.Given as goal
 
 abbrev pub invariant-loop-k : goal.invariant-loop-k
 invariant-loop-k l =
-    (l.k ≤ l.n) × (l.next ≤ l.at + 152 * l.k) × (length l.out ≡ length l.initial.out) × Put l.initial.out l.at (bytes_of_lines (notice_lines l.list l.lines l.k)) l.next l.out
+    (l.k ≤ l.n) × (l.next ≤ l.at + 152 * l.k) × (length l.out ≡ length l.initial.out)
+        × Put l.initial.out l.at (bytes_of_lines (notice_lines l.list l.lines l.k)) l.next l.out
 
 abbrev pub decreases-loop-k : goal.decreases-loop-k
 decreases-loop-k l = l.n - l.k

@@ -6,7 +6,8 @@ use Rattle.printing.proofs.sheet.print_statement.Goals as goal
 
 pub returns-then-cannot_print : goal.returns-then-cannot_print
 returns-then-cannot_print c =
-    let both = printed_nothing _ _ (found (rw c.count_in.ensures at c.cannot_print.ensures) c.if-cannot_print.true) in record { value = both.0; out_after = both.1 }
+    let both = printed_nothing _ _ (found (rw c.count_in.ensures at c.cannot_print.ensures) c.if-cannot_print.true) in
+    record { value = both.0; out_after = both.1 }
 
 pub put_statement-requires : goal.put_statement-requires
 put_statement-requires c = has_room _ _ _ (found (rw c.count_in.ensures at c.cannot_print.ensures) c.if-cannot_print.false)
