@@ -5,7 +5,7 @@
 #   make uninstall PREFIX=DIR   removes these files, and no folder
 #   make test                   every proof and every test, from nothing
 #   make bench                  times beside a plain C program, and the stack
-#   make clean                  removes build/; rt ci removes what it made itself
+#   make clean                  removes build/; what was proved stays in crates/NAME/out/
 
 PREFIX = /usr/local
 DESTDIR =
@@ -15,8 +15,8 @@ INSTALL = install
 version := $(shell sed -n 's/^\#define IBISLADDER_VERSION "\(.*\)"$$/\1/p' include/ibisladder.h)
 soname = libibisladder.so.$(basename $(version))
 
-proved = target/staticlib/libhost.a
-program = target/bin/statement
+proved = crates/host/out/libhost.a
+program = crates/statement/out/statement
 library = build/lib/libibisladder.a
 shared = build/lib/libibisladder.so.$(version)
 header = build/include/ibisladder.h

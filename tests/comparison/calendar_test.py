@@ -10,6 +10,7 @@ from datetime import date
 from functools import partial
 from itertools import product
 
+import reach
 from cases.checks import Case, check_built, check_every, check_group, check_share
 from cases.layers import both_of_days, fields
 from common.harness import Failure, run_tests

@@ -10,6 +10,7 @@ from collections import Counter
 from functools import partial
 from itertools import product
 
+import reach
 from cases.checks import check_built, check_every, check_group, check_happened, check_share
 from cases.clock_events import STARTS, SUNDAY_MUST_BE, sunday_to, warm_up_of
 from cases.energy_cases import GROUPS, SEED

@@ -9,6 +9,7 @@ import random
 from functools import partial
 from itertools import product
 
+import reach
 from cases import calls, statement_runs
 from cases.calls import both_of_calls
 from cases.checks import check_figure, check_same, shown

@@ -13,6 +13,7 @@ from collections import Counter
 from functools import cache, partial
 from typing import NamedTuple
 
+import reach
 from cases.checks import check_every
 from common.c_programs import CROSS_RUN, DRIVERS, build_delivered, build_sanitized
 from common.harness import Failure, run, run_tests, scratch

@@ -11,6 +11,7 @@ from fractions import Fraction
 from functools import partial
 from typing import NamedTuple
 
+import reach
 from cases.calls import (
     LINE_BYTES, TOTALS_BYTES, both_of_calls, lines_of, output_before, told, totals_of,
 )

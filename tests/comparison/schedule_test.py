@@ -10,6 +10,7 @@ from collections import Counter
 from functools import partial
 from itertools import pairwise
 
+import reach
 from cases.checks import ACCEPTED, check_built, check_every, check_group, check_share
 from cases.layers import both_of_lists, number_and_place, pairs
 from cases.schedule_cases import GROUPS

@@ -11,6 +11,7 @@ from datetime import date, timedelta
 from fractions import Fraction
 from functools import partial
 
+import reach
 from cases.calls import LINE_BYTES, both_of_calls, is_settlement, lines_of, output_before, told
 from cases.checks import (
     check_built, check_every, check_group, check_happened, check_share, check_worth,

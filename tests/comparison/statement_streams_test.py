@@ -1,15 +1,18 @@
 """Tests how the program `statement` takes its text and gives its statement away.
 
 A text may come in any pieces, slowly, from a pipe or from a file; the statement may go into
-a pipe or a file. It must be the second program's whatever the way (rule 8.18).
+a pipe or a file. It must be the second program's whatever the way, and a read that fails counts as
+the end of the text (rule 8.18).
 The last line printed is "N passed, M failed".
 """
 
+import os
 import random
 import subprocess
 import time
 from threading import Timer
 
+import reach
 from cases.checks import shown
 from cases.statement_runs import program_words, said
 from cases.statement_texts import SAMPLE, SMALL, parts_of_size
@@ -125,6 +128,18 @@ def check_file_position():
         check_statement(SAMPLE, said(stdin=source))
 
 
+def check_failures():
+    """A folder cannot be read, which counts as the end of the text; a full device takes no byte,
+    and there is nowhere to say so."""
+    folder = os.open(scratch(), os.O_RDONLY)
+    try:
+        check_statement(b"", said(stdin=folder))
+    finally:
+        os.close(folder)
+    with open("/dev/full", "wb") as full:
+        said(input=SAMPLE, stdout=full)
+
+
 TESTS = [
     ("pieces of 1 to 7 bytes", check_small_pieces),
     ("pieces of 511 to 65,537 bytes", check_large_pieces),
@@ -132,6 +147,7 @@ TESTS = [
     ("no text", check_no_text),
     ("from a file into a file", check_files),
     ("from the middle of a file", check_file_position),
+    ("a read that fails, and a write", check_failures),
 ]
 
 

@@ -8,6 +8,7 @@ The last line printed is "N passed, M failed".
 from collections import Counter, defaultdict
 from functools import partial
 
+import reach
 from cases.checks import check_built, check_every, check_group, check_share, check_worth
 from cases.statement_cases import GROUPS
 from cases.statement_runs import both_of_texts, read_statement, told

@@ -8,6 +8,7 @@ The last line printed is "N passed, M failed".
 from functools import partial
 from typing import NamedTuple
 
+import reach
 from cases.calls import LINE_BYTES, Settle, both_of_calls
 from cases.checks import check_same
 from cases.event_books import bare_query, stepped_book, with_readings

@@ -6,8 +6,9 @@ list is listed. The last line printed is "N passed, M failed".
 """
 
 import re
-from functools import partial
+from functools import cache, partial
 
+import reach
 from common.harness import ROOT, Failure, run_tests
 from sources import (
     PATH, QUOTED, at, check_none, crates, definitions, edits, functions, laws, public_names,
@@ -24,7 +25,9 @@ LEAST_EDITS = 2
 WITHOUT_EDITS = {"probe"}
 
 # Words in backquotes that name nothing of the tree: the language's, the toolchain's, C's, a text's.
-OTHER_WORDS = {"requires", "ensures", "rt", "rt ci", "read", "write", "read="}
+OTHER_WORDS = {
+    "requires", "ensures", "rt", "rt ci", "rt check", "rt must-fail NAME", "read", "write", "read=",
+}
 
 # Names in a row, one after the other, with the file that they are in right behind them.
 BESIDE = re.compile(r"((?:`[^`./]+`(?:, | and )?)+) (?:of |\()`([\w/+]+\.antt)`")
@@ -108,14 +111,24 @@ def meant(name, row):
     return [path for path in paths if f"/{path.relative_to(ROOT)}".endswith(f"/{name}")]
 
 
+@cache
+def names_of_code():
+    """Every crate, public function and edit."""
+    names = set(crates())
+    for crate in crates():
+        names |= {*edits(crate), *(function.name for function in functions(crate))}
+    return names
+
+
 def with_files(row):
     """The names of a row that stand beside files, and these: the first cell's beside those of
-    a last column `where`; else the first cell's, and others with a hyphen, beside those that
-    the table is about."""
+    a last column `where`; else the first cell's, and others of several words that are no names
+    of code, beside those that the table is about."""
     first = quoted(row.cells[0])
     if row.head[-1] == "where":
         return first, files_in(row.cells[-1])
-    others = [name for cell in row.cells[1:] for name in quoted(cell) if "-" in name]
+    others = [name for cell in row.cells[1:] for name in quoted(cell) if "_" in name]
+    others = [name for name in others if name not in names_of_code()]
     about = files_in(row.above)
     return [*first, *others], [*about, *files_in(" ".join(row.cells))] if about else []
 
@@ -148,9 +161,8 @@ def check_theorems():
 
 def known_names():
     """Every name of a crate, a public function, an edit or a definition."""
-    names = set(crates()) | OTHER_WORDS
+    names = names_of_code() | OTHER_WORDS
     for crate in crates():
-        names |= {*edits(crate), *(function.name for function in functions(crate))}
         for path in laws(crate):
             names |= definitions(path).keys()
     return names

@@ -7,6 +7,7 @@ The last line printed is "N passed, M failed".
 import re
 from functools import partial
 
+import reach
 from common.harness import ROOT, Failure, run_tests
 from sources import (
     PATH, QUOTED, at, check_none, crates, quoted, rows, sections, tree,
@@ -19,8 +20,8 @@ CHANGES = ROOT / "docs" / "CHANGES.md"
 TESTS_PAGE = ROOT / "tests" / "README.md"
 DOCUMENTS = [README, TESTS_PAGE, *sorted((ROOT / "docs").glob("*.md"))]
 
-# Paths that are no part of the tree: what is built, and where it is installed.
-ELSEWHERE = ("target/", "build/", "/")
+# Paths that are no part of the tree: what is proved and built, and where it is installed.
+ELSEWHERE = re.compile(r"crates/\w+/out/|build/|/")
 
 
 # Files.
@@ -32,7 +33,7 @@ def paths_in(line):
     if line.startswith("    "):
         words += [word.strip(",;:()`") for word in line.split()]
     paths = [word for word in words if PATH.fullmatch(word) and re.search(r"\w", word)]
-    return [path for path in paths if not path.startswith(ELSEWHERE)]
+    return [path for path in paths if not ELSEWHERE.match(path)]
 
 
 def is_there(path, crate):

@@ -10,6 +10,7 @@ The last line printed is "N passed, M failed".
 import re
 from functools import partial
 
+import reach
 from common.harness import ROOT, Failure, ended, run, run_tests, scratch
 from host_page import Site, at, settled
 from second.energies import MISSING

@@ -9,6 +9,7 @@ import re
 from itertools import product
 from typing import NamedTuple
 
+import reach
 from common.c_programs import HEADER
 from common.harness import ROOT, Failure
 from second import power, settlements

@@ -3,7 +3,8 @@
 The example examples/host.c has the sample and figures of docs/RULES.md in it and fails by itself
 where an answer is another one; its output must also be examples/host.expected, whose numbers
 must be the second program's and whose words the header's (host_page.py).
-The archive target/staticlib/libhost.a must be there: `rt staticlib host` proves and writes it.
+The archive crates/host/out/libhost.a must be there: `scripts/prove --library host` proves and
+writes it.
 The last line printed is "N passed, M failed".
 """
 
@@ -14,6 +15,7 @@ from functools import cache, partial
 from itertools import zip_longest
 from string import Template
 
+import reach
 from common.c_programs import (
     CROSS_COMPILER, CROSS_RUN, HEADER, STRICT, archive, build_delivered, build_sanitized,
 )
@@ -29,7 +31,7 @@ EXPECTED = ROOT / "examples" / "host.expected"
 ALLOWED_NEEDS = {"memcpy", "memset", "memmove"}
 CALLS = {"ibisladder_check", "ibisladder_settle", "ibisladder_power"}
 
-STATEMENT = ROOT / "target" / "bin" / "statement"
+STATEMENT = ROOT / "crates" / "statement" / "out" / "statement"
 SAMPLE = ROOT / "examples" / "winter.txt"
 
 # Where `make install` puts what, beside the shared library's own file.
@@ -206,29 +208,21 @@ def check_shared():
 
 
 def check_shared_example():
-    """The example with the shared library, under the toolchain's loader and C library."""
+    """The example with the shared library, which the loader finds by the folder that it is told."""
     folder = installed() / "lib"
     program = scratch() / "host-shared"
     words = ("-std=c99", *STRICT, f"-I{HEADER.parent}", EXAMPLE, f"-L{folder}", "-libisladder")
     run(CROSS_COMPILER, *words, "-o", program)
     if shared_names()[1] not in run("readelf", "-dW", program).stdout.decode():
         raise Failure("the shared library is not linked")
-    *command, libraries, _ = loader_words()
-    check_example(*command, f"{folder}:{libraries}", program)
-
-
-@cache
-def loader_words():
-    """The words that run the program statement, of which the last is the program and the one
-    before it names the libraries."""
-    return run(ROOT / "scripts" / "program", "--words", "statement").stdout.decode().splitlines()
+    check_example("env", f"LD_LIBRARY_PATH={folder}", CROSS_RUN, program)
 
 
 def check_program():
     """The installed program is the proved one, and makes a statement."""
     program = installed() / "bin" / "statement"
     check_same_file(program, STATEMENT)
-    printed = run(*loader_words()[:-1], program, input=SAMPLE.read_bytes()).stdout
+    printed = run(CROSS_RUN, program, input=SAMPLE.read_bytes()).stdout
     if printed != statement(SAMPLE.read_bytes()):
         raise Failure(f"it prints {printed!r}")
 

@@ -8,6 +8,7 @@ import re
 import sys
 from functools import cache
 
+import reach
 from common.harness import ROOT, run, run_tests
 from second import numbers
 from sources import check_none, edits, rows

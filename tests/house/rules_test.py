@@ -10,6 +10,7 @@ from functools import cache
 from itertools import groupby
 from typing import NamedTuple
 
+import reach
 from common.harness import ROOT, Failure, run_tests
 from sources import at, check_none, lines_of, tree
 

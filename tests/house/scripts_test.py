@@ -12,6 +12,7 @@ import signal
 import subprocess
 import time
 
+import reach
 from common.harness import ROOT, SECONDS_ALLOWED, Failure, ended, run, run_tests, scratch
 from tiny import Tiny, ends_of
 
@@ -36,17 +37,29 @@ def check_equal(got, right, what):
         raise Failure(f"{what}: {got}, not {right}")
 
 
+def told_of(crate):
+    """What is said of each crate that is proved for another one, as its proof begins."""
+    return [b"proving below, 1 of at most 2", f"proving {crate}, 2 of at most 2".encode()]
+
+
+def check_said(complaints, told):
+    """None complains but that it waits, and one says what is proved, where something is."""
+    said = [[line for line in one.splitlines() if WAITING not in line] for one in complaints]
+    check_equal([lines for lines in said if lines], [told] if told else [], "said")
+
+
 def check_many(repository, output, asked):
-    """Many statements at once: each is right, none complains but that it waits, and the toolchain
-    was asked for this and nothing else."""
-    for status, out, complaint in ends_of([repository.start(STATEMENT) for _ in range(AT_ONCE)]):
-        said = [line for line in complaint.splitlines() if WAITING not in line]
-        check_equal((status, out, said), (0, output, []), "a statement")
+    """Many statements at once: each is right, and the toolchain was asked for this and nothing
+    else."""
+    ends = ends_of([repository.start(STATEMENT) for _ in range(AT_ONCE)])
+    for status, out, _ in ends:
+        check_equal((status, out), (0, output), "a statement")
+    check_said([complaint for *_, complaint in ends], told_of("statement") if asked else [])
     check_equal(repository.collisions(), [], "asked while at work")
     check_equal(repository.asked(), asked, "asked of the toolchain")
 
 
-MADE = ["check statement"]
+MADE = ["run statement"]
 OUTPUT = b"below" + b"statement text"
 
 
@@ -87,11 +100,12 @@ def check_changes():
     check_many(repository, b"belowother text", MADE)
     repository.change("below", "deep")
     check_many(repository, b"deepother text", MADE)
-    (repository.top / "crates.txt").write_text("below:\nstatement: below io\nhost: below\n")
+    (repository.top / "crates.txt").write_text("below:\nstatement: below io\nhost staticlib: below\n")
     check_many(repository, b"deepother text", MADE)
     (repository.kit / "version").write_text("stand-in 2\n")
     check_many(repository, b"deepother text", MADE)
-    (repository.top / "target" / "bin" / "statement").write_text("#!/bin/sh\n")
+    program = repository.top / "crates" / "statement" / "out" / "statement"
+    program.write_text("#!/bin/sh\n")
     check_many(repository, b"deepother text", MADE)
 
 
@@ -107,13 +121,14 @@ def check_no_change():
 
 
 def check_library():
-    """An archive: what it stands on is proved first, and nothing is made twice."""
+    """An archive: nothing is made twice."""
     repository = tiny()
     check_many(repository, OUTPUT, MADE)
-    for asked in (["check below", "staticlib host"], []):
+    for asked in (["lib host"], []):
         prove = ("scripts/prove", "--library", "host")
         ends = ends_of([repository.start(*prove) for _ in range(AT_ONCE)])
         check_equal({status for status, _, _ in ends}, {0}, "exit status")
+        check_said([complaint for *_, complaint in ends], told_of("host") if asked else [])
         check_equal(repository.asked(), asked, "asked of the toolchain")
 
 

@@ -12,8 +12,8 @@ from typing import NamedTuple
 
 from common.harness import ROOT, Failure
 
-# What is no part of the tree: what is built, and what git keeps.
-OUTSIDE = {".git", "target", "build", "__pycache__"}
+# What is no part of the tree: what is proved and built, and what git keeps.
+OUTSIDE = {".git", "out", "build", "__pycache__"}
 
 QUOTED = re.compile(r"`([^`]+)`")
 
@@ -57,14 +57,16 @@ def tree():
 
 @cache
 def crates():
-    """The crates that crates.txt names, in its order."""
+    """The crates that crates.txt names, in its order; behind a static library's name stands that
+    it is one."""
     lines = (ROOT / "crates.txt").read_text().splitlines()
-    return [line.split(":")[0] for line in lines if ":" in line and not line.startswith("#")]
+    return [line.split(":")[0].split()[0] for line in lines if ":" in line and line[0] != "#"]
 
 
 def files_of(crate, pattern):
-    """A crate's files of this pattern, in their order."""
-    return sorted((ROOT / "crates" / crate).glob(pattern))
+    """A crate's files of this pattern, in their order, but for what was made of it."""
+    folder = ROOT / "crates" / crate
+    return sorted(path for path in folder.glob(pattern) if folder / "out" not in path.parents)
 
 
 def laws(crate):

@@ -1,44 +1,46 @@
 """A tiny repository with this one's scripts, and a stand-in for the toolchain.
 
-The stand-in writes down what it is asked, takes a moment to make a program, and notices a second
-one of its kind in the same moment. So the scripts can be tried from nothing many times.
-A program that it makes says how its source read then, before the text that it is given.
+The stand-in writes down what it is asked and in which crate's folder, says which crates it
+begins, takes a moment to make a program, which it then runs, and notices a second one of its kind in
+the same moment. So the scripts can be tried from nothing many times. A program that it makes says how
+its source read then, before the text that it is given.
 """
 
 import os
-import platform
 import shutil
 import subprocess
 from contextlib import suppress
 
 from common.harness import ROOT, SECONDS_ALLOWED
 
-CRATES = "below:\nstatement: below\nhost: below\n"
+CRATES = "below:\nstatement: below\nhost staticlib: below\n"
 SOURCES = {"below": "src/lib.rt", "statement": "src/main.rt", "host": "src/lib.rt"}
 
 RT = """#!/bin/sh
 kit={kit}
 case $1 in
 version) cat "$kit/version"; exit ;;
-doc) echo "$kit/docs/guide"; exit ;;
 esac
-echo "$*" >>"$kit/asked"
+crate=${{PWD##*/}}
+echo "$1 $crate" >>"$kit/asked"
 trap 'rmdir "$kit/busy"; exit 1' TERM
-mkdir "$kit/busy" || {{ echo "$*" >>"$kit/collisions"; exit 1; }}
+mkdir "$kit/busy" || {{ echo "$1 $crate" >>"$kit/collisions"; exit 1; }}
 trap 'rmdir "$kit/busy" 2>/dev/null' EXIT
+echo "rt: chose --jobs 2 for below"
+echo "rt: chose --jobs 1 for $crate"
 sleep 0.2
 [ ! -e "$kit/broken" ] || {{ echo "this is not proved"; exit 1; }}
-mkdir -p target/log target/bin target/staticlib
-echo made >"target/staticlib/lib$2.a"
-source=$(cat crates/below/src/lib.rt crates/statement/src/main.rt)
-printf '#!/bin/sh\\nprintf "%s "\\ncat\\n' "$source" >target/bin/new
-chmod +x target/bin/new
-mv target/bin/new target/bin/statement
+mkdir -p out
+case $1 in
+lib) echo made >"out/lib$crate.a"; exit ;;
+esac
+source=$(cat ../below/src/lib.rt src/main.rt)
+printf '#!/bin/sh\\nprintf "%s "\\ncat\\n' "$source" >out/new
+chmod +x out/new
+mv out/new "out/$crate"
+"out/$crate"
 """
 
-# What the toolchain has beside it to run a program: a loader, and an emulator where it needs one.
-LOADER = '#!/bin/sh\nshift 2\nexec "$@"\n'
-EMULATOR = '#!/bin/sh\nexec "$@"\n'
 
 def write(path, text, mode=0o644):
     path.parent.mkdir(parents=True, exist_ok=True)
@@ -55,10 +57,7 @@ class Tiny:
         write(self.top / "crates.txt", CRATES)
         for crate in SOURCES:
             self.change(crate, crate)
-        tools = self.kit / "on" / platform.machine() / "toolchain"
         write(self.kit / "bin" / "rt", RT.format(kit=self.kit), 0o755)
-        write(tools / "lib" / "ld-linux-x86-64.so.2", LOADER, 0o755)
-        write(tools / "bin" / "qemu-x86_64", EMULATOR, 0o755)
         write(self.kit / "version", "stand-in 1\n")
         self.path = f"{self.kit / 'bin'}:{os.environ['PATH']}"
 
@@ -68,7 +67,8 @@ class Tiny:
 
     def forget(self):
         """Removes all that was made."""
-        shutil.rmtree(self.top / "target", ignore_errors=True)
+        for crate in SOURCES:
+            shutil.rmtree(self.top / "crates" / crate / "out", ignore_errors=True)
 
     def asked(self):
         """What the stand-in was asked to make since the last look."""

@@ -5,18 +5,24 @@ that it does not know. The last line printed is "N passed, M failed".
 """
 
 import re
+from functools import cache
 
+import reach
 from common.harness import ROOT, Failure, run_tests
 from sources import (
     at, check_none, crates, definitions, files_of, functions, laws, lines_of,
 )
 
-# What would take a statement for granted, or leave it open.
-UNPROVED = re.compile(r"\b(?:axiom|postulate|sorry|admit)\b|\?")
+# What would take a statement for granted, or leave it open. In code a question mark behind a value
+# hands its error on.
+UNPROVED = {
+    ".antt": re.compile(r"\b(?:axiom|postulate|sorry|admit)\b|\?"),
+    ".rt": re.compile(r"\b(?:axiom|postulate|sorry|admit)\b|(?<![\w)\]])\?"),
+}
 
 # What a name is made of. The toolchain sets a plus before the name of a function that calls
 # itself.
-ANTT_NAME = re.compile(r"\+?[^\W_](?:[^\W_]|[-'′])*")
+ANTT_NAME = re.compile(r"\+?[^\W_](?:\w|[-'])*")
 RT_NAME = re.compile(r"[A-Za-z_][A-Za-z0-9_]*")
 RT_DEFINITION = re.compile(r"\b(?:fn|struct|enum|const|trait|type|mod) +([^\s(){}<>:;=]+)")
 
@@ -48,18 +54,28 @@ def check_folders():
     check_none(sorted(folders ^ set(crates())), "in crates/ or in crates.txt alone")
 
 
+@cache
+def exported(crate):
+    """What a crate's lib.rt uses publicly, as pairs of a module and a name."""
+    library = ROOT / "crates" / crate / "src" / "lib.rt"
+    text = library.read_text() if library.is_file() else ""
+    uses = re.findall(r"^pub use (\w+)::(?:(\w+)|\{([^}]*)\});", text, re.M)
+    return {
+        (module, name.strip()) for module, one, some in uses for name in (one or some).split(",")
+    }
+
+
 def check_exports():
     """A public function can be called from outside: it stands in lib.rt, or lib.rt uses it, or
     its type, publicly. All others are pub(crate)."""
     if not all_functions():
         raise Failure("there is no public function")
-    found = []
-    for crate, function in all_functions():
-        library = ROOT / "crates" / crate / "src" / "lib.rt"
-        text = library.read_text() if library.is_file() else ""
-        use = f"pub use {function.module}::{function.name.split('::')[0]};"
-        if function.module != "lib" and use not in text.splitlines():
-            found.append(f"{function.place} {function.name}")
+    found = [
+        f"{function.place} {function.name}"
+        for crate, function in all_functions()
+        if function.module != "lib"
+        and (function.module, function.name.split("::")[0]) not in exported(crate)
+    ]
     check_none(found, "public functions that lib.rt does not export")
 
 
@@ -120,10 +136,24 @@ def brought_in(path):
     brings in under another name, that name."""
     found = {}
     for _, line in lines_of(path):
-        match = re.match(r"\s*(?:pub )?use Rattle·(\w+)[^{ ]*(?: as (\S+)|\{(.*)\})?", line)
-        if match:
+        match = re.match(r"\s*(?:pub )?use Rattle\.(\w+)[^{ ]*(?: as (\S+)|\{(.*)\})?", line)
+        if match and match[1] in crates(): # the toolchain's libraries have such a path too
             names = [match[2]] if match[2] else (match[3] or "").split(",")
             found |= {name.split(" as ")[-1].strip(): match[1] for name in names}
+    return found
+
+
+def opened_by_code(crate):
+    """What a crate's code has the prover open, by an attribute, of other crates."""
+    found = []
+    for path in files_of(crate, "src/*.rt"):
+        for number, line in lines_of(path):
+            for names in re.findall(r"\bunfolding\(([^)]*)\)", line):
+                found += [
+                    f"{at(path, number)} {name}"
+                    for name in re.split(r"[\s,]+", names)
+                    if name.split("::")[0] in crates()
+                ]
     return found
 
 
@@ -140,6 +170,7 @@ def check_opened():
                 for name in line.split()[1:]
                 if of.get(name, crate) != crate
             ]
+        found += opened_by_code(crate) if crate != OPENS_ALL else []
     check_none(found, "definitions of a crate below that are opened")
 
 
@@ -148,7 +179,7 @@ def check_proved():
     found = [
         f"{at(path, number)} {match[0]}"
         for path, number, line in code_lines()
-        for match in UNPROVED.finditer(line)
+        for match in UNPROVED[path.suffix].finditer(line)
     ]
     check_none(found, "axioms and holes")
 

@@ -9,6 +9,7 @@ The last line printed is "N passed, M failed".
 import random
 from functools import partial
 
+import reach
 from common.harness import ROOT, Failure, ended, run_tests, scratch
 from damage import damaged
 from second import numbers

@@ -1,11 +1,79 @@
 // Prints the statement of the text on standard input, and nothing else.
-use libc::{STDIN_FILENO, STDOUT_FILENO};
+#![tactic(auto)]
 
-fn main() {
+ghost use Rattle.std.specs.Prelude.{◌≤◌, ◌<◌, length, take, IfOk, IfSome, IsTrue};
+ghost use Rattle.std.specs.Io.{ReadsAtMost};
+ghost use Rattle.std.specs.Io.KnownBytes.{Appends, Consumes, IsAtEnd, ReadConsumes};
+ghost use Rattle.text.specs.Statement.{statement_of};
+
+use std::io;
+use std::io::{ErrorKind, Read, Write};
+
+// One read, and another one where a signal came before its first byte.
+fn read_some<R: Read>(reader: &mut R, buf: &mut [u8]) -> io::Result<usize>
+    ensures bound { ReadsAtMost result buf.new }
+    ensures bytes { ReadConsumes (R.remaining reader.old) (R.remaining reader.new) result buf.new }
+{
+    for _ in 0..u64::MAX {
+        match reader.read(buf) {
+            Ok(count) => return Ok(count),
+            Err(e) => {
+                if e.kind() != ErrorKind::Interrupted {
+                    return Err(e);
+                }
+            }
+        }
+    }
+    reader.read(buf)
+}
+
+// What was read: how many bytes stand at the front of the buffer, and whether no read failed.
+#[derive(Clone, Copy)]
+struct Front {
+    count: usize,
+    whole: bool,
+}
+
+// Reads to the front of a buffer, until the reader ends, a read fails or the buffer is full.
+fn read_front<R: Read>(reader: &mut R, buf: &mut [u8]) -> Front
+    ensures bound { result.count ≤ length buf.new }
+    ensures bytes { Consumes (R.remaining reader.old) (R.remaining reader.new) (take result.count buf.new) }
+    ensures end { IsTrue result.whole → result.count < length buf.new → IsAtEnd (R.remaining reader.new) }
+{
+    let mut filled = 0;
+    while filled < buf.len() {
+        let Ok(count) = read_some(reader, &mut buf[filled..]) else {
+            return Front {
+                count: filled,
+                whole: false,
+            };
+        };
+        if count == 0 {
+            break;
+        }
+        filled += count;
+    }
+    Front {
+        count: filled,
+        whole: true,
+    }
+}
+
+// Writes the statement of the text that a reader has, of all of it unless a read fails, and nothing else; answers whether no read failed.
+fn answer<R: Read, W: Write>(reader: &mut R, writer: &mut W) -> io::Result<bool>
+    ensures { IfOk result (λ whole. IsTrue whole
+        → IfSome (R.remaining reader.old) (λ text. Appends (W.contents writer.old) (W.contents writer.new) (statement_of text))) }
+{
     // One byte more than a text may have, so that a longer one is seen as too long.
     let mut input = [0u8; 65537];
-    let count = io::read_full(STDIN_FILENO, &mut input);
+    let read = read_front(reader, &mut input);
     let mut out = [0u8; 20480];
-    let written = text::statement(&input[..count], &mut out);
-    io::write_all(STDOUT_FILENO, &out[..written]);
+    let written = text::statement(&input[..read.count], &mut out);
+    writer.write_all(&out[..written])?;
+    Ok(read.whole)
+}
+
+// A read that fails counts as the end of the text (rule 8.18), and of a write that fails there is nowhere to say it.
+fn main(rt: HostRuntime) {
+    let _ = answer(&mut rt.stdin(), &mut rt.stdout());
 }

@@ -23,6 +23,7 @@ from concurrent.futures import ThreadPoolExecutor
 from functools import partial
 from itertools import islice
 
+import reach
 from cases.notice_lists import SHAPES
 from cases.settlement_books import drawn_book, lowered
 from cases.settlement_calls import drawn_price

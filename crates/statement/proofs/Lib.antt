@@ -1,0 +1,2 @@
+mod Known
+mod Said
