@@ -2,3 +2,8 @@ pub mod Fronts
 pub mod RightLengths
 pub mod SettleLaws
 pub mod Told
+pub mod RightEnergies
+pub mod EnergiesLaws
+pub mod EnergiesTold
+pub mod CentsLaws
+pub mod CentsTold

@@ -1,5 +1,7 @@
+pub mod Above
 pub mod Below
 pub mod Every
+pub mod FirstAbove
 pub mod Guards
 pub mod Order
 pub mod ReadBack

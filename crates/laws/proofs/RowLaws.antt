@@ -3,7 +3,7 @@
 -- Assumes nothing.
 use Prim.Native.Nat.{ℕ, zero, suc, ◌+◌, ◌*◌, ◌/◌, ◌≤◌, ◌<◌}
 use mathlib.Core.Bool.{Bool, true, false}
-use mathlib.Core.List.{List, [], ◌∷◌, ◌++◌, append_assoc}
+use mathlib.Core.List.{List, [], ◌∷◌, ◌++◌, append_assoc, append-nil}
 use mathlib.Core.Logic.{⊎_elim}
 use mathlib.Core.Path.{◌≡◌, refl, sym, ap, ◌∙◌}
 use native.Mathlib.Nat.{eq-or-lt_of_le, le_of_suc-le-suc, le_trans, mul-le-mul_left, mul_comm, mul-zero, mul-suc, one-mul, div-lt_iff_lt-mul, le-div_iff_mul-le}
@@ -114,6 +114,16 @@ module _ {number_at : ℕ → ℕ} where
 
     pub filled_ones : n ≤ k → out ≡ numbers_over number_at n came
     filled_ones e = filled_all h e ∙ rw (one-mul n)
+
+-- what stands at an index of such numbers, with anything behind them and with nothing, and how many they are
+pub ones_in : (number_at : ℕ → ℕ) (rest : List ℕ) (n k : ℕ) → k < n → get_or (rows_to (λ (i : ℕ). number_at i ∷ []) n ++ rest) k 0 ≡ number_at k
+ones_in number_at rest n k h =
+    let at : k ≡ 1 * k + 0 = omega arith in
+    ap (λ (i : ℕ). get_or (rows_to (λ (j : ℕ). number_at j ∷ []) n ++ rest) i 0) at ∙ row_in one_wide rest n k 0 h (omega arith)
+
+pub ones_at : (number_at : ℕ → ℕ) (n k : ℕ) → k < n → get_or (rows_to (λ (i : ℕ). number_at i ∷ []) n) k 0 ≡ number_at k
+ones_at number_at n k h =
+    ap (λ (l : List ℕ). get_or l k 0) (sym (append-nil (rows_to (λ (i : ℕ). number_at i ∷ []) n))) ∙ ones_in number_at [] n k h
 
 pub ones_long : (number_at : ℕ → ℕ) (k : ℕ) → length (rows_to (λ (i : ℕ). number_at i ∷ []) k) ≡ k
 ones_long number_at k = rows_long one_wide k ∙ one-mul k

@@ -21,6 +21,12 @@ module _ (f : ℕ → ℕ) where
   sum_bound m h zero = omega arith
   sum_bound m h (suc n) = rw (suc-mul n m) (omega (arith, sum_bound m h n, h n))
 
+  -- the same where only the terms that are added are bounded
+  pub sum_bounded : (m n : ℕ) → ((k : ℕ) → k < n → f k ≤ m) → sum_to f n ≤ n * m
+  unfolding sum_to
+  sum_bounded m zero h = omega arith
+  sum_bounded m (suc n) h = rw (suc-mul n m) (omega (arith, sum_bounded m n (λ k b. h k (omega arith)), h n (omega arith)))
+
   -- sums only grow
   pub sum_grows : (j i : ℕ) → i ≤ j → sum_to f i ≤ sum_to f j
   unfolding sum_to

@@ -116,6 +116,11 @@ pub part_goes : (rows more : List Row) → NoneBroken rows → first_of more ≡
 part_goes [] more t = refl
 part_goes (r ∷ rows) more t = row_goes r (rows ++ more) t.0 (part_goes rows more t.1)
 
+pub parts_alike : (rows xs ys : List Row) → first_of xs ≡ first_of ys → first_of (rows ++ xs) ≡ first_of (rows ++ ys)
+unfolding first_of
+parts_alike [] xs ys e = e
+parts_alike (r ∷ rows) xs ys e = rw (parts_alike rows xs ys e)
+
 -- a part without places that a number tells: the number decides where it is a refusal's, and else no row of the part is broken
 module _ (rows : List Row) (number : ℕ) (e : refusal_at number 0 ≡ first_of rows) where
   pub told_stops : (more : List Row) → (number ≡ 0 → ⊥) → refusal_at number 0 ≡ first_of (rows ++ more)

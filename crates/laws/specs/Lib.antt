@@ -1,3 +1,4 @@
+pub mod Above
 pub mod Answer
 pub mod Below
 pub mod Bounds

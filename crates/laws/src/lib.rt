@@ -1,3 +1,7 @@
+// The ground under every other crate: the form of an answer on paper, and laws that every layer cites. Its one function is the walk over
+// numbers that are refused where they are too large.
 #![tactic(auto)]
 
-// The ground under every other crate: the form of an answer on paper, and laws that every layer cites. It has no code.
+mod numbers;
+
+pub use numbers::first_above;

@@ -17,6 +17,10 @@ exact_worth p e = e * p
 unfoldable pub rounded_worth : ℕ → ℕ → ℕ
 rounded_worth p e = nearest_whole (exact_worth p e) cent_parts
 
+-- so many energies are priced at most in a row, each no larger than the largest
+abbrev pub most_energies : ℕ
+most_energies = 100
+
 -- the most energy that is priced at once: that of a hundred events (rule 7.9)
 abbrev pub most_energy : ℕ
 most_energy = 100 * largest_energy

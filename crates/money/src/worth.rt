@@ -6,7 +6,7 @@ ghost use Rattle.money.specs.Worth.{rounded_worth, most_energy, worth_of};
 use crate::price::bad_price;
 
 // The worth of an energy to the nearest cent, halves up.
-fn rounded_worth(price: u32, energy: u64) -> u64
+pub(crate) fn rounded_worth(price: u32, energy: u64) -> u64
     requires { (price ≤ highest_price) × (energy ≤ most_energy) }
     ensures { result ≡ rounded_worth price energy }
 {

@@ -31,6 +31,10 @@ pub energies_bounded : (w : Winter) (book masks l : List ℕ) (k : ℕ) → ener
 unfolding event_in
 energies_bounded w book masks l k = answer_most w book masks (event_on masks (notice_at l k))
 
+pub event_bounded : (y : ℕ) (book l : List ℕ) (k : ℕ) → energy_at (event_at y book l) k ≤ largest_energy
+unfolding event_at
+event_bounded y book l k = answer_most (winter_of y) book (masks_of l) (notice_at l k)
+
 -- the event that the masks of the list hold for a notice is the notice
 pub same_event : {y : ℕ} {f : Figures} {l : List ℕ} → Standing y f l → (book : List ℕ) (k : ℕ) → k < count_of l
     → event_in (winter_of y) book (masks_of l) l k ≡ event_at y book l k

@@ -1,1 +1,9 @@
 pub mod EventLaws
+pub mod LineLaws
+pub mod CallGuards
+pub mod CallLaws
+pub mod RefusalLaws
+pub mod EnergiesLaws
+pub mod WayLaws
+pub mod Exact
+pub mod Demands

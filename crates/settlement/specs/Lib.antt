@@ -1,1 +1,5 @@
 pub mod Events
+pub mod Lines
+pub mod Printed
+pub mod Refusals
+pub mod Energies
