@@ -1,3 +1,5 @@
+-- What is left to show of `sum_of`, by the invariant in `Invariants.antt`.
+-- Assumes nothing.
 use native.Mathlib.Omega.{arith}
 use Rattle.book.specs.Readings.{reading_at}
 use Rattle.book.proofs.SumLaws.{sum_more, sum_there}

@@ -1,3 +1,5 @@
+-- What is left to show of `is_fixed`, by the invariant in `Invariants.antt`.
+-- Assumes nothing.
 use Prim.Native.Nat.{ℕ}
 use mathlib.Core.Path.{◌≡◌, ◌∙◌, sym, ap}
 use native.Mathlib.Omega.{arith}

@@ -1,3 +1,5 @@
+-- What is left to show of `book_day_of`, by the invariant in `Invariants.antt`.
+-- Assumes nothing.
 use mathlib.Core.Path.{◌∙◌}
 use native.Mathlib.Omega.{arith}
 use Rattle.laws.proofs.Guards.{found}

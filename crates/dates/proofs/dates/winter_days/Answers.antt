@@ -1,3 +1,5 @@
+-- What is left to show of `winter_days`, by the invariant in `Invariants.antt`.
+-- Assumes nothing.
 use mathlib.Core.Path.{◌∙◌}
 use native.Mathlib.Omega.{arith}
 use Rattle.laws.proofs.Guards.{found}

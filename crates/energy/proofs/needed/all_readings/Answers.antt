@@ -1,3 +1,5 @@
+-- What is left to show of `all_readings`, by the invariant in `Invariants.antt`.
+-- Assumes nothing.
 use mathlib.Core.Path.{refl, ◌∙◌}
 use Rattle.laws.proofs.Guards.{found}
 use Rattle.energy.proofs.AllReadings.{one_reading, one_not, no_hour}

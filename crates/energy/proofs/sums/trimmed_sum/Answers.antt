@@ -1,3 +1,5 @@
+-- What is left to show of `trimmed_sum`, by the invariant in `Invariants.antt`.
+-- Assumes nothing.
 use mathlib.Core.List.{[], ◌∷◌}
 use native.Mathlib.Omega.{arith}
 use Rattle.book.proofs.SumLaws.{sum_more, sum_none}

@@ -1,3 +1,5 @@
+-- What is left to show of `masks_of`, by the invariant in `Invariants.antt`.
+-- Assumes nothing.
 use native.Mathlib.Omega.{arith}
 use Rattle.event_hours.proofs.DayLaws.{masks_none, masks_next, masks_all}
 use Rattle.event_hours.proofs.days.masks_of.Goals as goal

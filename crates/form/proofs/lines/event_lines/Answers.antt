@@ -1,3 +1,5 @@
+-- What is left to show of `event_lines`, by the invariant in `Invariants.antt`.
+-- Assumes nothing.
 use mathlib.Core.Path.{sym, ◌∙◌}
 use Rattle.form.proofs.EventWalk.{events_start, events_end, events_stop, events_next}
 use borrow.Author.Rules.{rules}

@@ -1,3 +1,5 @@
+-- What is left to show of `read_lines`, by the invariant in `Invariants.antt`.
+-- Assumes nothing.
 use mathlib.Core.Path.{sym, ◌∙◌}
 use native.Mathlib.Omega.{arith}
 use Rattle.form.proofs.ReadWalk.{reads_start, reads_end, reads_stop, reads_next}

@@ -1,3 +1,5 @@
+-- What is left to show of `first_above`, by the invariant in `Invariants.antt`.
+-- Assumes nothing.
 use native.Mathlib.Omega.{arith}
 use Rattle.laws.proofs.FirstAbove.{low_none_yet, low_next, first_found}
 use Rattle.laws.proofs.numbers.first_above.Goals as goal

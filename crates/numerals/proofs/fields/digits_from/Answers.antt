@@ -1,3 +1,5 @@
+-- What is left to show of `digits_from`, by the invariant in `Invariants.antt`.
+-- Assumes nothing.
 use mathlib.Core.Bool.{true}
 use mathlib.Core.Path.{◌≡◌, sym, ◌∙◌}
 use native.Mathlib.Omega.{arith}

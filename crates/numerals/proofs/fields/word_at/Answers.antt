@@ -1,3 +1,5 @@
+-- What is left to show of `word_at`, by the invariant in `Invariants.antt`.
+-- Assumes nothing.
 use mathlib.Core.Path.{sym, ◌∙◌, refl}
 use native.Mathlib.Omega.{arith}
 use Rattle.numerals.specs.Fields.{word_at}

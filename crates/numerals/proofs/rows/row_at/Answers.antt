@@ -1,3 +1,5 @@
+-- What is left to show of `row_at`, by the invariant in `Invariants.antt`.
+-- Assumes nothing.
 use mathlib.Core.Path.{refl, sym, ◌∙◌}
 use native.Mathlib.Omega.{arith}
 use Rattle.numerals.proofs.RowLaws.{left_more, left_ended, left_broken, row_done, row_none, row_last, row_bad, row_more}

@@ -1,3 +1,5 @@
+-- What is left to show of `put_number`, by the invariant in `Invariants.antt`.
+-- Assumes nothing.
 use native.Mathlib.Omega.{arith}
 use Rattle.numerals.proofs.DecimalLaws.{length_one, length_more}
 use Rattle.numerals.proofs.PutLaws.{put_length, put_digit, put_digits}

@@ -1,3 +1,5 @@
+-- What is left to show of `put_fields`, by the invariant in `Invariants.antt`.
+-- Assumes nothing.
 use native.Mathlib.Omega.{arith}
 use Rattle.numerals.proofs.FieldWalk.{fields_start, fields_next, fields_end}
 use Rattle.numerals.proofs.writing.put_fields.Goals as goal

@@ -1,3 +1,5 @@
+-- What is left to show of `put_key`, by the invariant in `Invariants.antt`.
+-- Assumes nothing.
 use mathlib.Core.Path.{refl, sym, ◌∙◌}
 use native.Mathlib.Omega.{arith}
 use Rattle.numerals.proofs.PutLaws.{key_next, key_done}

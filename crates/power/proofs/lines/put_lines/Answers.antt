@@ -1,3 +1,5 @@
+-- What is left to show of `put_lines`, by the invariant in `Invariants.antt`.
+-- Assumes nothing.
 use Prim.Native.Nat.{suc}
 use mathlib.Core.Path.{◌≡◌, refl}
 use native.Mathlib.Omega.{arith}

@@ -1,3 +1,5 @@
+-- What is left to show of `references_refusal`, by the invariant in `Invariants.antt`.
+-- Assumes nothing.
 use Prim.Native.Nat.{ℕ, ◌≤◌, ◌<◌}
 use mathlib.Core.List.{List}
 use mathlib.Core.Path.{◌≡◌, refl}

@@ -1,3 +1,5 @@
+-- What is left to show of `nearest_before`, by the invariant in `Invariants.antt`.
+-- Assumes nothing.
 use Prim.Native.Nat.{◌-◌}
 use mathlib.Core.Path.{sym, ◌∙◌}
 use native.Mathlib.Omega.{arith}

@@ -1,3 +1,5 @@
+-- What is left to show of `past_events`, by the invariant in `Invariants.antt`.
+-- Assumes nothing.
 use mathlib.Core.Path.{refl}
 use native.Mathlib.Omega.{arith}
 use Rattle.references.proofs.PastEvents.{onward_here, onward_none, onward_next}

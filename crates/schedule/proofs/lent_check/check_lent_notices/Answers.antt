@@ -1,3 +1,5 @@
+-- What is left to show of `check_lent_notices`, by the invariant in `Invariants.antt`.
+-- Assumes nothing.
 use Rattle.laws.proofs.Guards.{found}
 use Rattle.schedule.proofs.Walk.{walk_start, walk_stop, walk_fits, walk_next, walk_done}
 use Rattle.schedule.proofs.lent_check.check_lent_notices.Goals as goal

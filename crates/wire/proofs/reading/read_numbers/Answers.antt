@@ -1,3 +1,5 @@
+-- What is left to show of `read_numbers`, by the invariant in `Invariants.antt`.
+-- Assumes nothing.
 use mathlib.Core.Path.{◌∙◌}
 use native.Mathlib.Omega.{arith}
 use Rattle.laws.proofs.RowLaws.{filled_none, filled_set, filled_ones}

@@ -1,3 +1,5 @@
+-- What is left to show of `write_numbers`, by the invariant in `Invariants.antt`.
+-- Assumes nothing.
 use mathlib.Core.Path.{refl, ◌∙◌}
 use native.Mathlib.Omega.{arith}
 use Rattle.laws.proofs.RowLaws.{filled_none, filled_next, filled_all}
