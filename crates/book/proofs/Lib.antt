@@ -1,5 +1,6 @@
 pub mod FaultLaws
 pub mod FirstFault
+pub mod FoundLaws
 pub mod LengthLaws
 pub mod PartLaws
 pub mod PlaceLaws

@@ -1,25 +1,26 @@
--- Laws of the day's part: what stands where a book has it, and where it has none; each of its readings is the book's at the hour's place, and
--- so is the first fault among its hours.
+-- Laws of the day's part: what stands where a book has it; each of its readings is the book's at the hour's place, and so is the first fault
+-- among its hours.
 -- Assumes nothing.
-use Prim.Native.Nat.{ℕ, ◌+◌, ◌-◌, ◌≤◌, ◌<◌}
+use Prim.Native.Nat.{ℕ, ◌≤◌, ◌<◌}
 use mathlib.Core.Bool.{Bool, true, false, cond, ◌||◌}
 use mathlib.Core.List.{List, [], ◌∷◌}
 use mathlib.Core.Path.{◌≡◌, refl, ap}
 use native.Mathlib.Omega.{arith}
 use lib.Dec.{ltb, eqb}
-use lib.ListN.{length, take, drop, length-take, length-drop}
+use lib.ListN.{length, length-take, length-drop}
 use lib.Seq.{get_or-take, get_or-drop}
+use Rattle.std.specs.Prelude.{Option, Some, None}
 use Rattle.laws.proofs.Every.{Every, imply}
 use Rattle.laws.proofs.Guards.{neither}
 use Rattle.calendar.proofs.Promise.{days_few, book_day, day_there}
 use Rattle.calendar.specs.Days.{wrong_winter, no_day}
 use Rattle.calendar.specs.declared.answers.Winter.{Winter}
-use Rattle.book.specs.Length.{day_hours, book_length, wrong_length}
-use Rattle.book.specs.Part.{no_part, day_readings, part_start, PartOf, fault_on}
+use Rattle.book.specs.Length.{book_length, wrong_length}
+use Rattle.book.specs.Part.{no_part, day_readings, PartOf, fault_on}
 use Rattle.book.specs.Places.{InDay, hour_place, places_of, places_on}
 use Rattle.book.specs.Readings.{reading_at, drawn_at, first_fault}
 use Rattle.book.specs.Values.{largest_reading, missing_mark, fault_of, or_fault}
-use Rattle.book.specs.declared.values.Fault.TheVariants.{Clean, Missing, TooLarge}
+use Rattle.book.specs.declared.values.Fault.TheVariants.{Missing, TooLarge}
 use Rattle.book.specs.declared.values.Fault.{Fault}
 use Rattle.book.proofs.FaultLaws.{faults_joined}
 use Rattle.book.proofs.LengthLaws.{right_length, length_right}
@@ -50,26 +51,6 @@ part_earlier w n d c e b =
 pub part_day : (w : Winter) (n d : ℕ) → no_part w n d ≡ false → d < 152
 part_day w n d e = omega (arith, (has_part w n d e).day, days_few w (has_part w n d e).winter)
 
-pub part_none : (w : Winter) (book : List ℕ) (d : ℕ) → no_part w (length book) d ≡ true → [] ≡ day_readings w book d
-unfolding day_readings
-part_none w book d e = rw e
-
--- the numbers from start to end, if those are the day's
-pub part_given : (w : Winter) (book : List ℕ) (d start end : ℕ) → no_part w (length book) d ≡ false → start ≡ book_length d → end ≡ start + day_hours
-    → take (end - start) (drop start book) ≡ day_readings w book d
-unfolding day_readings
-part_given w book d start end e s f =
-    let long : end - start ≡ day_hours = omega arith in
-    rw (e, long, s)
-
-pub start_none : (w : Winter) (n d : ℕ) → no_part w n d ≡ true → part_start w n d ≡ 0
-unfolding part_start
-start_none w n d e = rw e
-
-pub start_given : (w : Winter) (n d : ℕ) → no_part w n d ≡ false → part_start w n d ≡ book_length d
-unfolding part_start
-start_given w n d e = rw e
-
 -- every hour of some days that the book has is at a place in it
 place_in : (w : Winter) (n d h : ℕ) → no_part w n d ≡ false → InDay h → hour_place d h < n
 place_in w n d h e b = omega (arith, (has_part w n d e).whole, (has_part w n d e).day)
@@ -90,7 +71,7 @@ part_of_book w book d e q =
 
 -- the first fault among the same hours of some days: of the first day, or else of the others
 module _ (book hours : List ℕ) where
-  pub no_days : first_fault book (places_on hours []) ≡ Clean
+  pub no_days : first_fault book (places_on hours []) ≡ None
   unfolding places_on first_fault
   no_days = refl
 
@@ -100,17 +81,17 @@ module _ (book hours : List ℕ) where
   day_first d ds = faults_joined book (places_of d hours) (places_on hours ds)
 
 -- a part's fault told at its place is the book's
-on_or : (d : ℕ) (f g : Fault) → fault_on d (or_fault f g) ≡ or_fault (fault_on d f) (fault_on d g)
-on_or d Clean g = refl
-on_or d (Missing h) g = refl
-on_or d (TooLarge h) g = refl
+on_or : (d : ℕ) (f g : Option Fault) → fault_on d (or_fault f g) ≡ or_fault (fault_on d f) (fault_on d g)
+on_or d None g = refl
+on_or d (Some (Missing h)) g = refl
+on_or d (Some (TooLarge h)) g = refl
 
 value_on : (d v h : ℕ) → fault_on d (fault_of v h) ≡ fault_of v (hour_place d h)
 unfolding fault_of
 value_on d v h = by (eqb v missing_mark) (ltb largest_reading v)
   where
-    by : (missing large : Bool) → fault_on d (cond missing (Missing h) (cond large (TooLarge h) Clean))
-        ≡ cond missing (Missing (hour_place d h)) (cond large (TooLarge (hour_place d h)) Clean)
+    by : (missing large : Bool) → fault_on d (cond missing (Some (Missing h)) (cond large (Some (TooLarge h)) None))
+        ≡ cond missing (Some (Missing (hour_place d h))) (cond large (Some (TooLarge (hour_place d h))) None)
     by true large = refl
     by false true = refl
     by false false = refl
@@ -121,4 +102,4 @@ unfolding first_fault
 part_fault book d is [] in_day = refl
 part_fault book d {p} is (h ∷ hours) in_day =
     rw (on_or d (fault_of (reading_at p h) h) (first_fault p hours), value_on d (reading_at p h) h, is.each h in_day.0)
-    (ap (λ (f : Fault). or_fault (fault_of (drawn_at book d h) (hour_place d h)) f) (part_fault book d is hours in_day.1))
+    (ap (λ (f : Option Fault). or_fault (fault_of (drawn_at book d h) (hour_place d h)) f) (part_fault book d is hours in_day.1))

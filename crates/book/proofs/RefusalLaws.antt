@@ -9,21 +9,33 @@ use native.Mathlib.Omega.{arith}
 use Rattle.dates.proofs.Promise.{no_winter_lem, is_winter, winter_count, winter_range}
 use Rattle.dates.specs.Answers.{days_paper, winter_days}
 use Rattle.dates.specs.Winters.{days}
-use Rattle.dates.specs.declared.answers.Days.TheVariants.{Are, NoWinter}
-use Rattle.dates.specs.declared.answers.Days.{Days}
+use Rattle.std.specs.Prelude.{Option, Some, None, Result, Err, ok_or, IsErrAnd}
+use Rattle.std.proofs.lemmas.Result.{err_from_is_err_and}
 use Rattle.laws.proofs.Tables.{Numbered, NoneBroken, RowsBounded, row_stops, row_goes, rows_end}
 use Rattle.laws.specs.Table.{refusal_at, first_of}
+use Rattle.refusals.specs.Refusals.{rule_paper}
+use Rattle.refusals.specs.declared.rule.Rule.TheVariants.{NoWinter}
+use Rattle.refusals.specs.declared.rule.Rule.{Rule}
 use Rattle.book.specs.Length.{book_length, wrong_length}
 use Rattle.book.specs.Refusals.{bad_book, book_rows}
 use Rattle.book.proofs.LengthLaws.{right_length, length_right}
 
 module _ (w readings : ℕ) where
-  module _ (r : Days) (e : days_paper r ≡ winter_days w) where
-    pub winter_refused : r ≡ NoWinter → refusal_at 1 0 ≡ first_of (book_rows w readings)
+  module _ (r : Option ℕ) (e : days_paper r ≡ winter_days w) where
+    winter_refused : r ≡ None → refusal_at 1 0 ≡ first_of (book_rows w readings)
     unfolding book_rows
     winter_refused q = row_stops _ _ (no_winter_lem w r q e)
 
-    module _ (count : ℕ) (q : r ≡ Are count) where
+    -- the error that a `?` hands on
+    pub winter_told : (rule : Rule) → ok_or r NoWinter ≡ Err rule → (v : Result (Unit {0}) Rule) → IsErrAnd v (λ told. told ≡ rule)
+        → rule_paper v 0 ≡ first_of (book_rows w readings)
+    winter_told rule q v told =
+        let none : r ≡ None = grind arith in
+        let is : rule ≡ NoWinter = grind arith in
+        let err = err_from_is_err_and v told in
+        rw (err.1, err.2, is) (winter_refused none)
+
+    module _ (count : ℕ) (q : r ≡ Some count) where
       pub book_refused : wrong_length count readings ≡ true → refusal_at 2 0 ≡ first_of (book_rows w readings)
       unfolding book_rows bad_book
       book_refused f = row_goes _ _ (is_winter w count r q e) (row_stops _ _ (rw (← winter_count w count r q e) f))

@@ -1,12 +1,12 @@
 -- The day's part of a book.
 -- Assumes nothing.
-use Rattle.std.specs.Prelude.{ℕ, Bool, cond, ◌||◌, List, [], ◌≡◌, length, take, drop}
+use Rattle.std.specs.Prelude.{ℕ, Bool, cond, ◌||◌, List, [], ◌≡◌, Option, Some, None, length, take, drop}
 use Rattle.calendar.specs.Days.{wrong_winter, no_day}
 use Rattle.calendar.specs.declared.answers.Winter.{Winter}
 use Rattle.book.specs.Length.{day_hours, book_length, wrong_length}
 use Rattle.book.specs.Places.{InDay, hour_place}
 use Rattle.book.specs.Readings.{reading_at, drawn_at}
-use Rattle.book.specs.declared.values.Fault.TheVariants.{Clean, Missing, TooLarge}
+use Rattle.book.specs.declared.values.Fault.TheVariants.{Missing, TooLarge}
 use Rattle.book.specs.declared.values.Fault.{Fault}
 
 -- rule 2.8: a book of n numbers has no part for day d of the winter
@@ -27,7 +27,7 @@ pub record PartOf (book : List ℕ) (d : ℕ) (p : List ℕ) : Type 0 where
   pub each : (h : ℕ) → InDay h → reading_at p h ≡ drawn_at book d h
 
 -- a fault at an hour of the part of day d, told at its place in the book (rule 2.3)
-abbrev pub fault_on : ℕ → Fault → Fault
-fault_on d Clean = Clean
-fault_on d (Missing h) = Missing (hour_place d h)
-fault_on d (TooLarge h) = TooLarge (hour_place d h)
+abbrev pub fault_on : ℕ → Option Fault → Option Fault
+fault_on d None = None
+fault_on d (Some (Missing h)) = Some (Missing (hour_place d h))
+fault_on d (Some (TooLarge h)) = Some (TooLarge (hour_place d h))

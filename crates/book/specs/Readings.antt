@@ -1,9 +1,8 @@
 -- What is read of a book, or of a day's part of one: the first fault among some places, and sums over hours.
 -- Assumes nothing.
-use Rattle.std.specs.Prelude.{ℕ, ◌+◌, ◌-◌, ◌*◌, ◌^◌, ◌≤◌, List, [], ◌∷◌, ◌≡◌, get_or}
+use Rattle.std.specs.Prelude.{ℕ, ◌+◌, ◌-◌, ◌*◌, ◌^◌, ◌≤◌, List, [], ◌∷◌, Option, None, ◌≡◌, get_or}
 use Rattle.book.specs.Places.{hour_place, run}
 use Rattle.book.specs.Values.{fault_of, or_fault}
-use Rattle.book.specs.declared.values.Fault.TheVariants.{Clean}
 use Rattle.book.specs.declared.values.Fault.{Fault}
 
 -- what stands at a place; 0 past the end, where nothing stands, so that it is no fault and adds nothing (rule 2.9)
@@ -15,8 +14,8 @@ abbrev pub drawn_at : List ℕ → ℕ → ℕ → ℕ
 drawn_at book day h = reading_at book (hour_place day h)
 
 -- rule 2.9: the first value at fault among some places
-unfoldable pub first_fault : List ℕ → List ℕ → Fault
-first_fault values [] = Clean
+unfoldable pub first_fault : List ℕ → List ℕ → Option Fault
+first_fault values [] = None
 first_fault values (p ∷ places) = or_fault (fault_of (reading_at values p) p) (first_fault values places)
 
 -- the sum over some hours of what each has

@@ -2,16 +2,16 @@
 // Every call takes any numbers.
 #![tactic(auto)]
 
+mod guards;
 mod lengths;
 mod parts;
 mod places;
-mod refusals;
 mod runs;
 mod values;
 
+pub use guards::book_refusal;
 pub use lengths::{DAY_HOURS, MOST_READINGS, length_of, wrong_length};
 pub use parts::day_readings;
 pub use places::hour_place;
-pub use refusals::book_refusal;
 pub use runs::{first_fault, reading, sum_of};
-pub use values::{Fault, MISSING_MARK, is_clean, is_reading};
+pub use values::{Fault, MISSING_MARK, is_reading};

@@ -1,6 +1,6 @@
 // What a value of a book is: a reading, the mark of a missing one, or neither.
 ghost use Rattle.std.specs.Prelude.{◌≡◌};
-ghost use Rattle.book.specs.Values.{is_reading, fault_of, is_clean};
+ghost use Rattle.book.specs.Values.{is_reading, fault_of};
 
 // The mark of a missing reading.
 pub const MISSING_MARK: u32 = 4_294_967_295;
@@ -9,9 +9,8 @@ pub const MISSING_MARK: u32 = 4_294_967_295;
 const LARGEST_READING: u32 = 10_000_000;
 
 // What is wrong with a needed reading, and where.
-#[derive(Clone, Copy)]
+#[derive(Clone, Copy, Debug, PartialEq, Eq)]
 pub enum Fault {
-    Clean,
     Missing(u32),
     TooLarge(u32),
 }
@@ -23,26 +22,16 @@ pub fn is_reading(value: u32) -> bool
     value <= LARGEST_READING
 }
 
-// Whether nothing is wrong.
-pub fn is_clean(fault: Fault) -> bool
-    ensures { result ≡ is_clean fault }
-{
-    match fault {
-        Fault::Clean => true,
-        Fault::Missing(_) => false,
-        Fault::TooLarge(_) => false,
-    }
-}
-
 // The fault of a value that stands at a place. Nearly all are readings, which one test tells: the mark is above them all.
-pub(crate) fn fault_of(value: u32, place: u32) -> Fault
+#[tactic(auto, unfolding(crate::specs::Values::fault_of))]
+pub(crate) fn fault_of(value: u32, place: u32) -> Option<Fault>
     ensures { result ≡ fault_of value place }
 {
     if is_reading(value) {
-        return Fault::Clean;
+        return None;
     }
     if value == MISSING_MARK {
-        return Fault::Missing(place);
+        return Some(Fault::Missing(place));
     }
-    Fault::TooLarge(place)
+    Some(Fault::TooLarge(place))
 }

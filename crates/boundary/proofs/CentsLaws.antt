@@ -1,28 +1,32 @@
 -- Laws of the cents on bytes, one for each way out: refused by price or lengths, refused by an energy, or the cents.
 -- Assumes nothing.
-use Prim.Native.Nat.{ℕ, ◌/◌, ◌%◌, ◌≤◌}
+use Prim.Native.Nat.{ℕ, ◌*◌, ◌/◌, ◌%◌, ◌≤◌}
 use mathlib.Core.List.{List}
-use mathlib.Core.Path.{◌≡◌, sym, ap, ◌∙◌}
+use mathlib.Core.Path.{◌≡◌, refl, sym, ap, ◌∙◌}
 use native.Mathlib.Omega.{arith}
 use lib.ListN.{length}
 use borrow.Author.Tests.{eq-eqb, ne_eqb}
-use Rattle.laws.specs.Bounds.{largest_number, largest_place}
-use Rattle.laws.specs.Table.{refusal_at, first_of}
-use Rattle.money.proofs.PricingLaws.{number_is, answer_accepted, answer_bounded, answer_room_lem, told_answer, written_just}
-use Rattle.money.proofs.RefusalLaws.{call_right, by_call}
+use Rattle.laws.specs.Bounds.{largest_place}
+use Rattle.laws.specs.Table.{accepted, refusal_at, first_of}
+use Rattle.money.proofs.PricingLaws.{number_is, answer_accepted, answer_bounded, answer_room_lem, refused_answer, written_just}
+use Rattle.money.proofs.RefusalLaws.{call_right, call_refuses}
 use Rattle.money.specs.Cents.{cents_to}
-use Rattle.money.specs.Pricing.{refused_with, cents_of, cents_written}
+use Rattle.money.specs.Pricing.{Priced, priced_paper, refused_with, cents_of, cents_written}
 use Rattle.money.specs.Refusals.{price_rows}
-use Rattle.money.specs.declared.pricing.Priced.{Priced}
+use Rattle.refusals.specs.Packed as one
+use Rattle.refusals.specs.Refusals.{rule_number, at}
+use Rattle.refusals.specs.declared.refusal.Refusal.{Refusal}
+use Rattle.refusals.specs.declared.rule.Rule.{Rule}
+use Rattle.std.specs.Prelude.{Result, Ok, Err, IsErrAnd}
 use Rattle.wire.proofs.DecodedLaws.{decoded_long, whole_numbers}
 use Rattle.wire.proofs.WriteLaws.{written_whole}
 use Rattle.wire.specs.Bytes.{bytes_over, bytes_written}
 use Rattle.wire.specs.Decoded.{number_count, decoded}
-use Rattle.boundary.specs.Calls.{packed}
 use Rattle.boundary.specs.CentsCall.{packed_priced, cents_over, cents_call, cents_bytes}
 use Rattle.boundary.specs.CentsWhole.{CentsLengths, CentsRoom, PricedBytes}
 use Rattle.boundary.specs.Whole.{numbers_in_whole}
 use Rattle.boundary.proofs.Fronts.{decoded_is, whole_long}
+use Rattle.boundary.proofs.Packing.{some, packed_refusal, packed_rule}
 
 -- lengths that the call does not refuse
 pub record RightBytes (energies out : ℕ) : Type 0 where
@@ -30,28 +34,26 @@ pub record RightBytes (energies out : ℕ) : Type 0 where
   pub cents_fit : energies / 4 ≤ out / 8
   pub lengths : CentsLengths energies out
 
--- the call's refusal: number 0, or refused by price or lengths
-module _ (p : ℕ) (energies out : List ℕ) (count number : ℕ) (c : count ≡ number_count (length energies))
-    (e : refusal_at number 0 ≡ first_of (price_rows p count (length out / 8))) where
-  refusal_is : (number ≡ 0 → ⊥) → refused_with number 0 ≡ cents_of p (decoded energies) (length out / 8)
-  refusal_is f =
-      told_answer p (decoded energies) (length out / 8) number 0
-      (by_call p (decoded energies) (length out / 8) number (rw (decoded_long energies, ← c) e) f) f
+-- the call's refusal by price or lengths
+module _ (p : ℕ) (energies out : List ℕ) (count : ℕ) (c : count ≡ number_count (length energies)) where
+  module _ (rule : Rule) (e : refusal_at (rule_number rule) 0 ≡ first_of (price_rows p count (length out / 8))) where
+    refusal_is : refused_with (rule_number rule) 0 ≡ cents_of p (decoded energies) (length out / 8)
+    refusal_is =
+        refused_answer p (decoded energies) (length out / 8) (at rule 0)
+        (call_refuses p (decoded energies) (length out / 8) rule (rw (decoded_long energies, ← c) e))
 
-  refused_call : (number ≡ 0 → ⊥) → packed number 0 ≡ cents_call p energies (length out)
-  unfolding cents_call
-  refused_call f = ap packed_priced (refusal_is f)
+    refused_bytes_lem : out ≡ cents_bytes p energies out
+    unfolding cents_bytes cents_over
+    refused_bytes_lem = rw (← refusal_is, ne_eqb (rule_number rule) 0 (some rule))
 
-  refused_bytes_lem : (number ≡ 0 → ⊥) → out ≡ cents_bytes p energies out
-  unfolding cents_bytes cents_over
-  refused_bytes_lem f = rw (← refusal_is f, ne_eqb number 0 f)
+    pub refused_tells : (v : Result (Unit {0}) Refusal) → IsErrAnd v (λ x. x ≡ at rule 0)
+        → (one.packed v ≡ cents_call p energies (length out)) × (out ≡ cents_bytes p energies out)
+    unfolding cents_call
+    refused_tells v told = (packed_rule v rule told ∙ ap packed_priced refusal_is, refused_bytes_lem)
 
-  pub refused_tells : (number ≡ 0 → ⊥) → (packed number 0 ≡ cents_call p energies (length out)) × (out ≡ cents_bytes p energies out)
-  refused_tells f = (refused_call f, refused_bytes_lem f)
-
-  pub right_call : number ≡ 0 → RightBytes (length energies) (length out)
-  right_call z =
-      let right = call_right p count (length out / 8) number e z in
+  pub right_call : accepted ≡ first_of (price_rows p count (length out / 8)) → RightBytes (length energies) (length out)
+  right_call e =
+      let right = call_right p count (length out / 8) 0 e refl in
       let few = right.few in
       let whole = whole_numbers (length energies) (omega (arith, c)) in
       let fits : length energies / 4 ≤ length out / 8 = omega (arith, c, whole.count, right.room_enough) in
@@ -87,15 +89,12 @@ module _ (p : ℕ) (energies cents out : List ℕ) (room : CentsRoom energies (l
   just_is : s ≡ cents_of p energies (length energies)
   just_is = e ∙ ap (cents_of p energies) room.just
 
-  pub just_bounded : (s.number ≤ largest_number) × (s.place ≤ largest_place)
-  just_bounded = rw e (answer_bounded p energies (length cents))
-
   just_untouched : (s.number ≡ 0 → ⊥) → out ≡ cents_over p energies (length energies) out
   unfolding cents_over
   just_untouched f = rw (← just_is, ne_eqb s.number 0 f)
 
-  pub just_refused : {answer : ℕ} → (s.number ≡ 0 → ⊥) → answer ≡ packed_priced s → PricedBytes p energies out answer out
-  just_refused f q = record { answer_is = q ∙ ap packed_priced just_is; bytes_are = just_untouched f }
+  untouched : {answer : ℕ} → (s.number ≡ 0 → ⊥) → answer ≡ packed_priced s → PricedBytes p energies out answer out
+  untouched f q = record { answer_is = q ∙ ap packed_priced just_is; bytes_are = just_untouched f }
 
   module _ (z : s.number ≡ 0) where
     none : (cents_of p energies (length cents)).number ≡ 0
@@ -115,5 +114,20 @@ module _ (p : ℕ) (energies cents out : List ℕ) (room : CentsRoom energies (l
           o ∙ written_whole cents' out (omega (arith, k, room.bytes_fit)) ∙ rw (long, are) in
           rw (← just_is, eq-eqb s.number 0 z) over
 
-      pub just_cents : PricedBytes p energies out 0 out'
-      just_cents = record { answer_is = just_accepted; bytes_are = just_written }
+      written : PricedBytes p energies out 0 out'
+      written = record { answer_is = just_accepted; bytes_are = just_written }
+
+-- and so the verdict of `cents` on the numbers, which `?` hands on
+module _ (p : ℕ) (energies cents out : List ℕ) (just : length cents ≡ length energies) (fits : 8 * length energies ≤ length out) where
+  room : CentsRoom energies (length cents) (length out)
+  room = record { just = just; bytes_fit = omega (arith, just, fits) }
+
+  pub just_refused : (v : Result (Unit {0}) Refusal) (r : Refusal) → IsErrAnd v (λ x. x ≡ r) → priced_paper (Err r) ≡ cents_of p energies (length cents)
+      → PricedBytes p energies out (one.packed v) out
+  just_refused v r told e =
+      let bounded : r.place ≤ largest_place = rw (← e) at (answer_bounded p energies (length cents)).1 in
+      untouched p energies cents out room (priced_paper (Err r)) e (some r.rule) (packed_refusal v r told bounded)
+
+  pub just_cents : (total : ℕ) → priced_paper (Ok total) ≡ cents_of p energies (length cents) → {cents' out' : List ℕ}
+      → cents' ≡ cents_written p energies cents → length cents' ≡ length cents → out' ≡ bytes_written cents' out → PricedBytes p energies out 0 out'
+  just_cents total e l k o = written p energies cents out room (priced_paper (Ok total)) e refl l k o

@@ -9,8 +9,7 @@ use lib.ListN.{length}
 use borrow.Author.Tests.{eq-eqb, ne_eqb}
 use Rattle.money.proofs.PricingLaws.{number_is, answer_accepted, answer_bounded}
 use Rattle.money.specs.Cents.{cents_to}
-use Rattle.money.specs.Pricing.{cents_of}
-use Rattle.money.specs.declared.pricing.Priced.{Priced}
+use Rattle.money.specs.Pricing.{Priced, cents_of}
 use Rattle.wire.specs.Bytes.{bytes_over}
 use Rattle.wire.specs.Decoded.{decoded}
 use Rattle.boundary.specs.CentsCall.{cents_over, cents_call, cents_bytes}

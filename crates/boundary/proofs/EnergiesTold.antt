@@ -8,8 +8,7 @@ use native.Mathlib.Omega.{arith}
 use lib.ListN.{length}
 use borrow.Author.Tests.{eq-eqb, ne_eqb}
 use Rattle.settlement.proofs.EnergiesLaws.{number_is, answer_accepted, answer_bounded}
-use Rattle.settlement.specs.Energies.{energies_of}
-use Rattle.settlement.specs.declared.call.Spared.{Spared}
+use Rattle.settlement.specs.Energies.{Spared, energies_of}
 use Rattle.wire.specs.Decoded.{decoded}
 use Rattle.boundary.specs.EnergiesCall.{energy_lines_over, energies_over, energies_call, energies_bytes}
 use Rattle.boundary.proofs.Told.{packed_told}

@@ -1,3 +1,4 @@
+pub mod Packing
 pub mod Fronts
 pub mod RightLengths
 pub mod SettleLaws

@@ -10,8 +10,7 @@ use borrow.Author.Tests.{eq-eqb, ne_eqb}
 use Rattle.laws.specs.Answer.{Answer}
 use Rattle.laws.specs.Bounds.{largest_place}
 use Rattle.credit.proofs.SettlementLaws.{number_is, settled_accepted, settlement_bounded}
-use Rattle.credit.specs.Settlement.{settlement}
-use Rattle.credit.specs.declared.call.Settlement.{Settlement}
+use Rattle.credit.specs.Settlement.{Settlement, settlement}
 use Rattle.schedule.proofs.Bounds.{check_bounded}
 use Rattle.schedule.specs.ListCheck.{check_answer}
 use Rattle.wire.specs.Decoded.{decoded}

@@ -4,8 +4,7 @@ use Rattle.std.specs.Prelude.{ℕ, ◌+◌, ◌*◌, ◌/◌, cond, List, eqb, l
 use Rattle.laws.specs.Answer.{Answer}
 use Rattle.credit.specs.Lines.{line_numbers, lines_to}
 use Rattle.settlement.specs.Events.{event_at}
-use Rattle.credit.specs.Settlement.{settlement}
-use Rattle.credit.specs.declared.call.Settlement.{Settlement}
+use Rattle.credit.specs.Settlement.{Settlement, settlement}
 use Rattle.notices.specs.Notices.{count_of}
 use Rattle.schedule.specs.ListCheck.{check_answer}
 use Rattle.wire.specs.Bytes.{bytes_over}

@@ -2,8 +2,7 @@
 -- Assumes nothing.
 use Rattle.std.specs.Prelude.{ℕ, ◌/◌, cond, List, eqb, length}
 use Rattle.money.specs.Cents.{cents_to}
-use Rattle.money.specs.Pricing.{cents_of}
-use Rattle.money.specs.declared.pricing.Priced.{Priced}
+use Rattle.money.specs.Pricing.{Priced, cents_of}
 use Rattle.wire.specs.Bytes.{bytes_over}
 use Rattle.wire.specs.Decoded.{decoded}
 use Rattle.boundary.specs.Calls.{packed}

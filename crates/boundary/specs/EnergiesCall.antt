@@ -2,10 +2,9 @@
 -- Assumes nothing.
 use Rattle.std.specs.Prelude.{ℕ, ◌*◌, ◌/◌, cond, List, eqb, length}
 use Rattle.notices.specs.Notices.{count_of}
-use Rattle.settlement.specs.Energies.{energies_of}
+use Rattle.settlement.specs.Energies.{Spared, energies_of}
 use Rattle.settlement.specs.Events.{event_at}
 use Rattle.settlement.specs.Lines.{line_numbers, lines_to}
-use Rattle.settlement.specs.declared.call.Spared.{Spared}
 use Rattle.wire.specs.Bytes.{bytes_over}
 use Rattle.wire.specs.Decoded.{decoded}
 use Rattle.boundary.specs.Calls.{packed}

@@ -4,7 +4,6 @@
 mod cents_call;
 mod check_call;
 mod energies_call;
-mod packing;
 mod settle_call;
 
 pub use cents_call::cents_bytes;

@@ -8,6 +8,7 @@ use native.Mathlib.Omega.{arith}
 use lib.Dec.{ltb}
 use borrow.Author.Tests.{ltb-false}
 use Rattle.laws.proofs.Guards.{neither}
+use Rattle.laws.proofs.Refusals.{refused, kept}
 use Rattle.dates.proofs.Promise.{days_range}
 use Rattle.dates.specs.Century.{InCentury}
 use Rattle.calendar.specs.Easter.{no_easter_year, easter_t, after_march_first, easter_in_book}
@@ -44,3 +45,6 @@ unfolding no_easter_year
 easter_century y e =
     let p = neither (ltb y 2011) (ltb 2099 y) e in
     omega (arith, ltb-false y 2011 p.0, ltb-false 2099 y p.1)
+
+-- what a year's Easter Sunday goes by
+pub ruleset easter_laws = (easter_century, refused, kept)

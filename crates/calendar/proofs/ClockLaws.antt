@@ -11,7 +11,7 @@ use native.Mathlib.Omega.{arith}
 use lib.Dec.{leb, eqb}
 use borrow.Author.Tests.{le-leb, lt-leb, eq-eqb, ne_eqb}
 use Rattle.laws.proofs.Order.{either_order}
-use Rattle.laws.proofs.Refusals.{kept}
+use Rattle.laws.proofs.Refusals.{refused, kept}
 use Rattle.laws.specs.Answer.{given, refusal, bit}
 use Rattle.calendar.specs.Answers.{forward_day, back_day}
 use Rattle.calendar.specs.Clocks.{sunday_from, clocks_back, clocks_forward, passed_hour, has_hour, elapsed}
@@ -58,6 +58,8 @@ module _ (w : Winter) (right : wrong_winter w ≡ false) (s : ℕ) where
   pub back_given : s ≡ sunday_from w 0 → given (s ∷ []) ≡ back_day w
   unfolding back_day clocks_back
   back_given e = kept (refusal 1) right (rw e)
+
+pub ruleset change_laws = (days_few, sunday_most, forward_given, back_given, refused)
 
 -- another day has every hour
 pub every_hour : (w : Winter) (d h : ℕ) → (d ≡ clocks_forward w → ⊥) → has_hour w d h ≡ true

@@ -19,7 +19,8 @@ use Rattle.calendar.specs.Weekdays.{first_weekday, weekday, weekend}
 use Rattle.calendar.specs.WinterOf.{winter_of, first_of}
 use Rattle.calendar.specs.declared.answers.Winter.{Winter}
 use Rattle.calendar.proofs.Bounds.{after_range}
-use Rattle.calendar.proofs.Promise.{day_past, day_there, period_start}
+use Rattle.calendar.proofs.Answered.{no_winter_known}
+use Rattle.calendar.proofs.Promise.{days_few, day_past, day_there, period_start}
 
 first_value : Answer → ℕ
 first_value a = get_or a.values 0 0
@@ -63,3 +64,8 @@ module _ (w : Winter) (d : ℕ) (right : wrong_winter w ≡ false) where
   kind_given p k e h p-is k-is e-is =
       let there = day_there w d h in
       kept (refusal 1) right (kept (refusal 10) there (rw (p-is, k-is, e-is, period_start w d there)))
+
+-- what the calls go by where no answer is written
+pub ruleset weekday_laws = (no_winter_known, refused)
+
+pub ruleset kind_laws = (no_kind, days_few, day_there, refused)

@@ -1,7 +1,6 @@
 pub mod Bounds
 pub mod Promise
 pub mod ClockLaws
-pub mod ExcludedLaws
 pub mod FactLaws
 pub mod Answered
 pub mod OneOutcome

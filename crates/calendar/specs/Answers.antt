@@ -1,44 +1,39 @@
 -- What each public call of the calendar answers on paper (rules 1.14, 1.16 and 4.3), and the number and values of each case of an answer.
 -- Assumes nothing.
-use Rattle.std.specs.Prelude.{ℕ, [], ◌∷◌}
+use Rattle.std.specs.Prelude.{ℕ, [], ◌∷◌, Option, Some, None, Result, Ok, Err}
 use Rattle.laws.specs.Answer.{Answer, given, refusal, refuse, bit}
+use Rattle.dates.specs.Answers.{error_number}
 use Rattle.dates.specs.Winters.{no_winter}
+use Rattle.dates.specs.declared.answers.Date.{Date}
+use Rattle.dates.specs.declared.answers.DateError.{DateError}
 use Rattle.calendar.specs.Clocks.{clocks_forward, clocks_back}
 use Rattle.calendar.specs.Days.{wrong_winter, no_day, in_period}
 use Rattle.calendar.specs.Easter.{no_easter_year, easter_month, easter_day}
 use Rattle.calendar.specs.Excluded.{excluded}
 use Rattle.calendar.specs.Weekdays.{weekday, weekend}
 use Rattle.calendar.specs.WinterOf.{winter_of}
-use Rattle.calendar.specs.declared.answers.Change.TheVariants as ChangeCase
-use Rattle.calendar.specs.declared.answers.Change.{Change}
-use Rattle.calendar.specs.declared.answers.DayKind.TheVariants as DayKindCase
-use Rattle.calendar.specs.declared.answers.DayKind.{DayKind}
-use Rattle.calendar.specs.declared.answers.Known.TheVariants as KnownCase
-use Rattle.calendar.specs.declared.answers.Known.{Known}
-use Rattle.calendar.specs.declared.answers.Sunday.TheVariants as SundayCase
-use Rattle.calendar.specs.declared.answers.Sunday.{Sunday}
+use Rattle.calendar.specs.declared.answers.Kind.{Kind}
 use Rattle.calendar.specs.declared.answers.Winter.{Winter}
 
 -- the paper's number and values for each case
 abbrev pub facts_paper : Winter → Answer
 facts_paper w = given (w.days ∷ w.december ∷ w.first ∷ w.easter ∷ [])
 
-abbrev pub known_paper : Known → Answer
-known_paper (KnownCase.Is w) = facts_paper w
-known_paper KnownCase.NoWinter = refusal 1
+abbrev pub known_paper : Option Winter → Answer
+known_paper (Some w) = facts_paper w
+known_paper None = refusal 1
 
-abbrev pub sunday_paper : Sunday → Answer
-sunday_paper (SundayCase.On month day) = given (month ∷ day ∷ [])
-sunday_paper SundayCase.NoYear = refusal 1
+abbrev pub sunday_paper : Option Date → Answer
+sunday_paper (Some date) = given (date.month ∷ date.day ∷ [])
+sunday_paper None = refusal 1
 
-abbrev pub kind_paper : DayKind → Answer
-kind_paper (DayKindCase.Is k) = given (bit k.period ∷ bit k.weekend ∷ bit k.excluded ∷ [])
-kind_paper DayKindCase.NoWinter = refusal 1
-kind_paper DayKindCase.NoDay = refusal 10
+abbrev pub kind_paper : Result Kind DateError → Answer
+kind_paper (Ok k) = given (bit k.period ∷ bit k.weekend ∷ bit k.excluded ∷ [])
+kind_paper (Err e) = refusal (error_number e)
 
-abbrev pub change_paper : Change → Answer
-change_paper (ChangeCase.On day) = given (day ∷ [])
-change_paper ChangeCase.NoWinter = refusal 1
+abbrev pub change_paper : Option ℕ → Answer
+change_paper (Some day) = given (day ∷ [])
+change_paper None = refusal 1
 
 -- what each call answers (rule 1.16)
 unfoldable pub winter_facts : ℕ → Answer

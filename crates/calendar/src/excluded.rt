@@ -9,31 +9,21 @@ use crate::answers::Winter;
 const FIXED_DAYS: [u32; 6] = [53, 54, 55, 60, 61, 62];
 
 // Whether a day is one of the six fixed days. No day before the first or after the last is looked up.
+#[tactic(auto, unfolding(crate::specs::Excluded::among))]
 fn is_fixed(day: u32) -> bool
     ensures { result ≡ among day fixed_days }
 {
-    if (day < 53) | (62 < day) {
-        return false;
-    }
-    let mut i: usize = 0;
-    while i < 6 {
-        if FIXED_DAYS[i] == day {
-            return true;
-        }
-        i += 1;
-    }
-    false
+    (53..=62).contains(&day) && FIXED_DAYS.contains(&day)
 }
 
 // Whether a book day is excluded. Easter may lie after 31 March, and then no book day is beside it. In 64 bits no sum wraps.
+#[tactic(auto, unfolding(crate::specs::Excluded::excluded, crate::specs::Excluded::good_friday, crate::specs::Excluded::easter_monday))]
 pub(crate) fn is_excluded(w: Winter, day: u32) -> bool
     requires { no_day w day ≡ false }
     ensures { result ≡ excluded w day }
 {
-    if is_fixed(day) {
-        return true;
-    }
-    let d = day as u64;
-    let easter = w.easter as u64;
-    (d + 2 == easter) | (d == easter + 1)
+    let d = u64::from(day);
+    let easter = u64::from(w.easter);
+    // By `|` there is no branch between the two days beside Easter Sunday: by `||` it was tried, and is slower.
+    is_fixed(day) || (d + 2 == easter) | (d == easter + 1)
 }

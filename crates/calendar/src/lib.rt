@@ -10,7 +10,7 @@ mod kinds;
 mod weekdays;
 mod winters;
 
-pub use answers::{Change, DayKind, Kind, Known, Sunday, Winter};
+pub use answers::{Kind, Winter};
 pub use clocks::{DAYS_FROM_8_MARCH, PASSED_HOUR, clocks_back, clocks_forward};
 pub use easter::easter_sunday;
 pub use kinds::kind_of;

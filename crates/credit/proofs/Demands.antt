@@ -24,7 +24,7 @@ use Rattle.notices.specs.Notices.{count_of, notice_at}
 use Rattle.laws.proofs.RowLaws.{rows_long}
 use Rattle.settlement.proofs.EventLaws.{event_is_line}
 use Rattle.settlement.specs.Events.{event_at, energy_at}
-use Rattle.energy.specs.declared.events.Event.{Event}
+use Rattle.energy.specs.Event.{Event}
 use Rattle.credit.specs.Lines.{line_numbers, lines_to}
 use Rattle.credit.specs.Printed.{energy_in, cents_in, event_told}
 use Rattle.credit.specs.Refusals.{refusal_of}

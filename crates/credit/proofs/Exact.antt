@@ -20,8 +20,7 @@ use Rattle.notices.specs.declared.profiles.Profile.TheVariants.{Credit}
 use Rattle.schedule.proofs.Accepted.{Lawful}
 use Rattle.credit.specs.Lines.{line_numbers}
 use Rattle.credit.specs.Refusals.{settlement_table, refusal_of}
-use Rattle.credit.specs.Settlement.{settlement, written}
-use Rattle.credit.specs.declared.call.Settlement.{Settlement}
+use Rattle.credit.specs.Settlement.{Settlement, settlement, written}
 use Rattle.credit.proofs.RefusalLaws.{RightCall, table_numbered, settlement_right, list_lawful, right_accepted}
 use Rattle.credit.proofs.SettlementLaws.{number_is, settled_accepted, settled_by_lem, written_by_lem}
 

@@ -14,7 +14,7 @@ use Rattle.money.specs.Cents.{cents_at}
 use Rattle.money.specs.Worth.{most_energy}
 use Rattle.notices.specs.Notices.{most_notices}
 use Rattle.settlement.specs.Events.{energy_at}
-use Rattle.energy.specs.declared.events.Event.{Event}
+use Rattle.energy.specs.Event.{Event}
 use Rattle.credit.specs.Lines.{line_numbers, line_at, lines_to}
 use Rattle.credit.specs.Printed.{code_in, place_in, energy_in, cents_in, event_told}
 

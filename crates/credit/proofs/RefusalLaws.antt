@@ -21,6 +21,10 @@ use Rattle.money.proofs.PriceLaws.{RightPrice, right_price, price_right}
 use Rattle.notices.specs.Notices.{notice_numbers, most_notices, count_in, count_of}
 use Rattle.notices.specs.Profiles.{figures_of}
 use Rattle.notices.specs.declared.profiles.Profile.TheVariants.{Credit}
+use Rattle.refusals.proofs.RuleNumbers.{number_range}
+use Rattle.refusals.specs.Refusals.{rule_number, at, verdict_paper}
+use Rattle.refusals.specs.declared.rule.Rule.{Rule}
+use Rattle.std.specs.Prelude.{Err, ⊤}
 use Rattle.schedule.proofs.Accepted.{Lawful, whole_test, notices_lawful, lawful_notices}
 use Rattle.schedule.proofs.Bounds.{notices_bounded}
 use Rattle.schedule.proofs.RuleLaws.{checked_notices}
@@ -105,6 +109,11 @@ module _ (w readings p : ℕ) (l : List ℕ) (room : ℕ) where
     refusal_notices z =
         let right = call_is_right z in
         checked_notices w Credit l (whole_test (length l) right.whole right.few) ∙ right_refusal right
+
+  -- a rule that refuses the call is the refusal, with place 0
+  pub call_refuses : (rule : Rule) → refusal_at (rule_number rule) 0 ≡ first_of call
+      → verdict_paper {A = ⊤} (Err (at rule 0)) ≡ refusal_of w readings p l room
+  call_refuses rule e = let some = number_range rule in refusal_call (rule_number rule) e (λ (z : rule_number rule ≡ 0). omega arith)
 
   -- a settlement that is not refused: the call is right, and the list keeps every rule of the winter credit
   module _ (e : is_refusal (refusal_of w readings p l room) ≡ false) where

@@ -12,11 +12,14 @@ use Rattle.laws.specs.Answer.{Answer}
 use Rattle.laws.specs.Table.{refusal_at, first_of, is_refusal}
 use Rattle.laws.specs.Bounds.{largest_number, largest_place}
 use Rattle.notices.specs.Notices.{count_of}
+use Rattle.refusals.proofs.RuleNumbers.{refused_is}
+use Rattle.refusals.specs.Refusals.{verdict_paper}
+use Rattle.refusals.specs.declared.refusal.Refusal.{Refusal}
+use Rattle.std.specs.Prelude.{Err, ⊤}
 use Rattle.settlement.specs.Events.{event_at}
 use Rattle.credit.specs.Lines.{line_numbers, lines_to}
 use Rattle.credit.specs.Refusals.{call_rows, refusal_of}
-use Rattle.credit.specs.Settlement.{refused_with, totals_of, lines_in, settled_by, written_by, settlement, written}
-use Rattle.credit.specs.declared.call.Settlement.{Settlement}
+use Rattle.credit.specs.Settlement.{Settlement, settlement_paper, refused_with, totals_of, lines_in, settled_by, written_by, settlement, written}
 use Rattle.credit.proofs.RefusalLaws.{refusal_call, refusal_room, refusal_bounded}
 
 module _ (w p : ℕ) (book l : List ℕ) (room : ℕ) where
@@ -47,16 +50,21 @@ module _ (w p : ℕ) (book l : List ℕ) (room : ℕ) where
       by true q = rw (settled_by_lem q) (refusal_bounded w (length book) p l room)
       by false q = rw (settled_accepted q) (omega arith, omega arith)
 
+  -- what is refused is answered by the refusal
+  module _ (r : Refusal) (said : verdict_paper {A = ⊤} (Err r) ≡ refusal) where
+    pub refused_lem : is_refusal refusal ≡ true
+    refused_lem = rw (← said) (refused_is r.rule r.place)
+
+    pub refused_answer : settlement_paper (Err r) ≡ settlement w book p l room
+    refused_answer = sym (settled_by_lem refused_lem ∙ rw (← said) refl)
+
   -- a call that its winter, price or lengths refuse
-  module _ (number : ℕ) (e : refusal_at number 0 ≡ first_of (call_rows w (length book) p (length l) room)) (f : number ≡ 0 → ⊥) where
-    refusal_is : refusal_at number 0 ≡ refusal
-    refusal_is = refusal_call w (length book) p l room number e f
-
-    pub is_refused_lem : is_refusal refusal ≡ true
-    is_refused_lem = rw (← refusal_is, ne_eqb number 0 f)
-
-    pub call_refused : refused_with number 0 ≡ settlement w book p l room
-    call_refused = sym (settled_by_lem is_refused_lem ∙ rw (← refusal_is) refl)
+  pub call_refused : (number : ℕ) → refusal_at number 0 ≡ first_of (call_rows w (length book) p (length l) room) → (number ≡ 0 → ⊥)
+      → refused_with number 0 ≡ settlement w book p l room
+  call_refused number e f =
+      let is = refusal_call w (length book) p l room number e f in
+      let refused : is_refusal refusal ≡ true = rw (← is, ne_eqb number 0 f) in
+      sym (settled_by_lem refused ∙ rw (← is) refl)
 
   -- of the output's length only its room for the lines counts
   pub settled_room : (other : ℕ) → line_numbers * count_of l ≤ room → line_numbers * count_of l ≤ other
@@ -68,10 +76,6 @@ module _ (w p : ℕ) (book l out : List ℕ) where
   pub written_by_lem : is_refusal (refusal_of w (length book) p l (length out)) ≡ true → written w book p l out ≡ out
   unfolding written written_by
   written_by_lem e = rw e
-
-  pub call_unwritten : (number : ℕ) → refusal_at number 0 ≡ first_of (call_rows w (length book) p (length l) (length out)) → (number ≡ 0 → ⊥)
-      → out ≡ written w book p l out
-  call_unwritten number e f = sym (written_by_lem (is_refused_lem w p book l (length out) number e f))
 
   pub written_accepted : is_refusal (refusal_of w (length book) p l (length out)) ≡ false
       → written w book p l out ≡ lines_in p (event_at w book l) (count_of l) out

@@ -4,7 +4,7 @@ use Rattle.std.specs.Prelude.{ℕ, List, [], ◌∷◌}
 use Rattle.laws.specs.Rows.{rows_to}
 use Rattle.money.specs.Cents.{cents_at}
 use Rattle.settlement.specs.Events.{energy_at}
-use Rattle.energy.specs.declared.events.Event.{Event}
+use Rattle.energy.specs.Event.{Event}
 
 abbrev pub line_numbers : ℕ
 line_numbers = 4

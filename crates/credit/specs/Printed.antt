@@ -1,7 +1,7 @@
 -- The numbers of a line as they stand in an output.
 -- Assumes nothing.
 use Rattle.std.specs.Prelude.{ℕ, ◌+◌, ◌*◌, List, [], ◌∷◌, get_or}
-use Rattle.energy.specs.declared.events.Event.{Event}
+use Rattle.energy.specs.Event.{Event}
 use Rattle.credit.specs.Lines.{line_numbers}
 
 -- rule 7.5: which of its four numbers is which

@@ -1,6 +1,6 @@
 -- The settlement of a winter: what it answers, and what it leaves in the lent output.
 -- Assumes nothing.
-use Rattle.std.specs.Prelude.{ℕ, ◌*◌, ◌≤◌, false, cond, List, ◌≡◌, length, get_or}
+use Rattle.std.specs.Prelude.{ℕ, ◌*◌, ◌≤◌, false, cond, List, ◌≡◌, length, get_or, Ok, Err, Result}
 use Rattle.laws.specs.Answer.{Answer}
 use Rattle.laws.specs.Rows.{rows_over}
 use Rattle.laws.specs.Sums.{sum_to}
@@ -9,18 +9,36 @@ use Rattle.money.specs.Price.{bad_price}
 use Rattle.money.specs.Worth.{rounded_worth}
 use Rattle.notices.specs.Notices.{most_notices, count_of}
 use Rattle.settlement.specs.Events.{event_at, energy_at}
-use Rattle.energy.specs.declared.events.Event.{Event}
+use Rattle.energy.specs.Event.{Event}
 use Rattle.credit.specs.Lines.{line_numbers, line_at}
 use Rattle.credit.specs.Refusals.{refusal_of}
-use Rattle.credit.specs.declared.call.Settlement.{Settlement}
+use Rattle.credit.specs.declared.lines.Totals.{Totals}
+use Rattle.refusals.specs.Refusals.{rule_number}
+use Rattle.refusals.specs.declared.refusal.Refusal.{Refusal}
+
+-- what a settlement answers on paper: the refusal number and place, 0 if it is accepted, and the totals, 0 if it is refused
+pub record Settlement : Type 0 where
+  pub number : ℕ
+  pub place : ℕ
+  pub energy : ℕ
+  pub cents : ℕ
 
 -- rule 4.2: no totals beside a refusal
 abbrev pub refused_with : ℕ → ℕ → Settlement
 refused_with number place = record { number = number; place = place; energy = 0; cents = 0 }
 
+-- what the call gives, as this answer
+abbrev pub settlement_paper : Result Totals Refusal → Settlement
+settlement_paper (Ok totals) = record { number = 0; place = 0; energy = totals.energy; cents = totals.cents }
+settlement_paper (Err refusal) = refused_with (rule_number refusal.rule) refusal.place
+
 -- rule 7.7: the totals, with number and place of an accepted call
 abbrev pub totals_of : ℕ → (ℕ → Event) → ℕ → Settlement
 totals_of p events n = record { number = 0; place = 0; energy = sum_to (energy_at events) n; cents = rounded_worth p (sum_to (energy_at events) n) }
+
+-- these totals alone
+abbrev pub totals_in : ℕ → (ℕ → Event) → ℕ → Totals
+totals_in p events n = record { energy = sum_to (energy_at events) n; cents = rounded_worth p (sum_to (energy_at events) n) }
 
 -- rule 7.6: the lines at the front, and the rest as it was
 abbrev pub lines_in : ℕ → (ℕ → Event) → ℕ → List ℕ → List ℕ

@@ -2,9 +2,9 @@
 #![tactic(auto)]
 
 mod call;
+mod guards;
 mod lines;
-mod refusals;
 
-pub use call::{Settlement, settle};
-pub use lines::{LINE_NUMBERS, MOST_LINE_NUMBERS};
-pub use refusals::call_refusal;
+pub use call::settle;
+pub use guards::call_refusal;
+pub use lines::{LINE_NUMBERS, MOST_LINE_NUMBERS, Totals};

@@ -3,18 +3,23 @@
 use Prim.Native.Nat.{ℕ, zero, suc, ◌+◌, ◌-◌, ◌%◌, ◌≤◌, ◌<◌}
 use mathlib.Core.Bool.{Bool, true, false, not, cond, ◌&&◌, ◌||◌}
 use mathlib.Core.List.{List, [], ◌∷◌}
-use mathlib.Core.Path.{◌≡◌, refl}
+use mathlib.Core.Path.{◌≡◌, refl, ap}
 use native.Mathlib.Numerals.{add-one}
 use native.Mathlib.Omega.{arith}
 use lib.Dec.{eqb, ltb}
-use lib.ListN.{get_or, drop}
+use lib.ListN.{get_or, drop, length}
+use Rattle.std.proofs.Math.ListN.{drop_of_length-le}
+use Rattle.std.specs.Prelude.{Option, Some, None, Ok, Err, ok_or, sum}
+use Rattle.dates.specs.declared.answers.DateError.TheVariants.{NoWinter}
+use Rattle.dates.specs.declared.answers.DateError.{DateError}
 use lib.Seq.{drop-cons}
 use borrow.Author.Tests.{eqb-true, eq-eqb, ne_eqb, lt-ltb, le-ltb, ltb-false}
-use Rattle.laws.proofs.Guards.{both, neither}
+use Rattle.laws.proofs.Guards.{neither}
+use Rattle.laws.proofs.Refusals.{refused, kept}
 use Rattle.laws.specs.Answer.{given, refusal}
 use Rattle.dates.specs.Century.{InCentury}
 use Rattle.dates.specs.Dates.{month_lengths, month_after, date_from, day_in_month, book_day_from}
-use Rattle.dates.specs.Winters.{leap, days}
+use Rattle.dates.specs.Winters.{no_winter, leap, days}
 
 -- in the century that begins with 2000 a leap year is one that 4 divides: 2000 is one too
 pub leap_century : (y : ℕ) → InCentury y → eqb (y % 4) 0 ≡ leap y
@@ -26,26 +31,26 @@ leap_century y e = by (eqb (y % 4) 0) (eqb (y % 100) 0) refl
     by true false q = refl
     by true true q = rw (eq-eqb (y % 400) 0 (omega (arith, e, eqb-true (y % 100) 0 q)))
 
--- the code's table: the months of a winter whose February is a common year's
-abbrev pub common_lengths : List ℕ
-common_lengths = 30 ∷ 31 ∷ 31 ∷ 28 ∷ 31 ∷ []
+-- what the code's months tell of the winter: there is one or not, and they are the definition's
+module _ (y : ℕ) {r : Option (List ℕ)} (m : r ≡ cond (no_winter y) None (Some (month_lengths y))) where
+  pub without : r ≡ None → no_winter y ≡ true
+  without e = grind arith
 
--- the length of month i: the table's, but for a February with a leap day
-pub length_leap : (y i : ℕ) → (eqb i 3 && leap (y + 1)) ≡ true → 29 ≡ get_or (month_lengths y) i 0
-unfolding month_lengths
-length_leap y i e =
-    let p = both (eqb i 3) (leap (y + 1)) e in
-    rw (eqb-true i 3 p.0, p.1)
+  pub with_months : (lengths : List ℕ) → r ≡ Some lengths → (no_winter y ≡ false) × (lengths ≡ month_lengths y)
+  with_months lengths e = (grind arith, grind arith)
 
-pub length_common : (y i : ℕ) → (eqb i 3 && leap (y + 1)) ≡ false → get_or common_lengths i 0 ≡ get_or (month_lengths y) i 0
-unfolding month_lengths
-length_common y zero e = refl
-length_common y (suc zero) e = refl
-length_common y (suc (suc zero)) e = refl
-length_common y (suc (suc (suc zero))) e = rw e
-length_common y (suc (suc (suc (suc zero)))) e = refl
-length_common y (suc (suc (suc (suc (suc i))))) e = refl
+  -- the same where a `?` gives the error
+  pub without_error : (e : DateError) → ok_or r NoWinter ≡ Err e → (no_winter y ≡ true) × (e ≡ NoWinter)
+  without_error e q = (without (grind arith), grind arith)
 
+  pub with_months_ok : (lengths : List ℕ) → ok_or r NoWinter ≡ Ok lengths
+      → (no_winter y ≡ false) × (lengths ≡ month_lengths y) × (length lengths ≡ 5)
+  unfolding month_lengths
+  with_months_ok lengths q =
+      let p = with_months lengths (grind arith) in
+      (p.0, p.1, ap length p.1)
+
+-- no month has more than 31 days, and those of a winter's months are N
 pub length_small : (y i : ℕ) → get_or (month_lengths y) i 0 ≤ 31
 unfolding month_lengths
 length_small y zero = omega arith
@@ -59,59 +64,51 @@ length_small y (suc (suc (suc zero))) = february (leap (y + 1))
 length_small y (suc (suc (suc (suc zero)))) = omega arith
 length_small y (suc (suc (suc (suc (suc i))))) = omega arith
 
--- the days of some months together; those of a winter's months are N
-pub together : List ℕ → ℕ
-together [] = 0
-together (n ∷ lengths) = n + together lengths
-
-pub together_days : (y : ℕ) → together (month_lengths y) ≡ days y
-unfolding together month_lengths days
-together_days y = either (leap (y + 1))
+pub sum_days : (y : ℕ) → sum (month_lengths y) ≡ days y
+unfolding month_lengths days
+sum_days y = either (leap (y + 1))
   where
-    either : (b : Bool) → 30 + (31 + (31 + (cond b 29 28 + 31))) ≡ cond b 152 151
+    either : (b : Bool) → sum (30 ∷ 31 ∷ 31 ∷ cond b 29 28 ∷ 31 ∷ []) ≡ cond b 152 151
     either true = refl
     either false = refl
 
--- at month i of winter y, whose length is n: what the walk gives there, and that passing the month changes nothing
-module _ (y i n : ℕ) (h : i < 5) (e : n ≡ get_or (month_lengths y) i 0) where
-  now_first : drop i (month_lengths y) ≡ n ∷ drop (i + 1) (month_lengths y)
-  unfolding month_lengths
-  now_first = rw (add-one i, e) (drop-cons (month_lengths y) i 0 h)
+-- at month i: what the walk gives there, and that passing the month changes nothing
+module _ (lengths : List ℕ) (i : ℕ) (h : i < length lengths) where
+  now_first : drop i lengths ≡ get_or lengths i 0 ∷ drop (i + 1) lengths
+  now_first = rw add-one (drop-cons lengths i 0 h)
 
-  pub date_here : (month left : ℕ) → left < n → given (month ∷ (left + 1) ∷ []) ≡ date_from (drop i (month_lengths y)) month left
+  pub date_here : (month left : ℕ) → left < get_or lengths i 0 → given (month ∷ (left + 1) ∷ []) ≡ date_from (drop i lengths) month left
   unfolding date_from
-  date_here month left l = rw (now_first, lt-ltb left n l)
+  date_here month left l = rw (now_first, lt-ltb left (get_or lengths i 0) l)
 
-  pub date_next : (month left : ℕ) → n ≤ left
-      → date_from (drop (i + 1) (month_lengths y)) (month_after month) (left - n) ≡ date_from (drop i (month_lengths y)) month left
+  pub date_next : (month left : ℕ) → get_or lengths i 0 ≤ left
+      → date_from (drop (i + 1) lengths) (month_after month) (left - get_or lengths i 0) ≡ date_from (drop i lengths) month left
   unfolding date_from
-  date_next month left l = rw (now_first, le-ltb left n l)
+  date_next month left l = rw (now_first, le-ltb left (get_or lengths i 0) l)
 
-  pub book_day_here : (now first month day : ℕ) → now ≡ month → day_in_month first n day ≡ book_day_from (drop i (month_lengths y)) now first month day
+  pub book_day_here : (now first month day : ℕ) → now ≡ month
+      → day_in_month first (get_or lengths i 0) day ≡ book_day_from (drop i lengths) now first month day
   unfolding book_day_from
   book_day_here now first month day q = rw (now_first, eq-eqb now month q)
 
   pub book_day_next : (now first month day : ℕ) → (now ≡ month → ⊥)
-      → book_day_from (drop (i + 1) (month_lengths y)) (month_after now) (first + n) month day ≡ book_day_from (drop i (month_lengths y)) now first month day
+      → book_day_from (drop (i + 1) lengths) (month_after now) (first + get_or lengths i 0) month day ≡ book_day_from (drop i lengths) now first month day
   unfolding book_day_from
   book_day_next now first month day q = rw (now_first, ne_eqb now month q)
 
-  pub together_next : (before : ℕ) → before + n + together (drop (i + 1) (month_lengths y)) ≡ before + together (drop i (month_lengths y))
-  unfolding together
-  together_next before = rw now_first (omega arith)
-
 -- after March nothing is left
-pub together_end : (y i before : ℕ) → i ≡ 5 → before ≡ before + together (drop i (month_lengths y))
-unfolding month_lengths together
-together_end y i before e = rw e (omega arith)
+pub date_end : (lengths : List ℕ) (i month left : ℕ) → length lengths ≤ i → refusal 10 ≡ date_from (drop i lengths) month left
+unfolding date_from
+date_end lengths i month left h = rw (drop_of_length-le lengths h)
 
-pub date_end : (y i month left : ℕ) → i ≡ 5 → refusal 10 ≡ date_from (drop i (month_lengths y)) month left
-unfolding month_lengths date_from
-date_end y i month left e = rw e
+pub book_day_end : (lengths : List ℕ) (i now first month day : ℕ) → length lengths ≤ i → refusal 10 ≡ book_day_from (drop i lengths) now first month day
+unfolding book_day_from
+book_day_end lengths i now first month day h = rw (drop_of_length-le lengths h)
 
-pub book_day_end : (y i now first month day : ℕ) → i ≡ 5 → refusal 10 ≡ book_day_from (drop i (month_lengths y)) now first month day
-unfolding month_lengths book_day_from
-book_day_end y i now first month day e = rw e
+-- what the two walks over the months go by
+pub ruleset date_laws = (without_error, with_months_ok, date_here, date_next, date_end, refused, kept)
+
+pub ruleset book_day_laws = (without_error, with_months_ok, length_small, book_day_here, book_day_next, book_day_end, refused, kept)
 
 -- a day that the month has
 pub in_month : (day n : ℕ) → (ltb day 1 || ltb n day) ≡ false → (1 ≤ day) × (day ≤ n)

@@ -5,19 +5,18 @@ use Prim.Native.Nat.{ℕ, ◌+◌, ◌-◌, ◌≤◌}
 use mathlib.Core.Bool.{Bool, true, false, cond}
 use mathlib.Core.List.{[], ◌∷◌, map}
 use mathlib.Core.Logic.{◌⊎◌, inl, inr, ◌↔◌}
-use mathlib.Core.Path.{◌≡◌, refl, sym, ap, ◌∙◌}
+use mathlib.Core.Path.{◌≡◌, refl, sym}
 use native.Mathlib.Omega.{arith}
 use lib.Dec.{ltb}
-use lib.ListN.{get_or}
 use borrow.Author.Tests.{ltb-false, le-ltb}
 use Rattle.laws.proofs.Guards.{neither}
-use Rattle.laws.proofs.Refusals.{kept, either_way}
-use Rattle.laws.specs.Answer.{Answer, given, refusal}
+use Rattle.laws.proofs.Refusals.{refused, kept}
+use Rattle.laws.specs.Answer.{given, refusal, refuse}
+use Rattle.dates.proofs.OneOutcome.{days_one}
 use Rattle.dates.specs.Answers.{days_paper, winter_days, date_of, book_day_of}
 use Rattle.dates.specs.Dates.{month_lengths, november, date_from, day_in_month, book_day_from}
 use Rattle.dates.specs.Winters.{no_winter, leap, days}
-use Rattle.dates.specs.declared.answers.Days.{Days}
-use Rattle.dates.specs.declared.answers.Days.TheVariants.{Are, NoWinter}
+use Rattle.std.specs.Prelude.{Option, Some, None}
 
 pub winter_range : (y : ℕ) → (no_winter y ≡ false) ↔ ((2010 ≤ y) × (y ≤ 2098))
 unfolding no_winter
@@ -42,24 +41,23 @@ days_range y = either (leap (y + 1))
     either true = (omega arith, omega arith)
     either false = (omega arith, omega arith)
 
--- what the two answers of `winter_days` tell
-pub no_winter_lem : (y : ℕ) (r : Days) → r ≡ NoWinter → days_paper r ≡ winter_days y → no_winter y ≡ true
+-- what an answer of `winter_days` tells
+pub days_is : (y : ℕ) (r : Option ℕ) → days_paper r ≡ winter_days y → r ≡ cond (no_winter y) None (Some (days y))
 unfolding winter_days
-no_winter_lem y r q e =
-    either_way (λ (a : Answer). 1 ≡ a.number → no_winter y ≡ true) (no_winter y) (λ t one. t) (λ f one. absurd (omega arith))
-    (ap (λ (r : Days). (days_paper r).number) (sym q) ∙ ap (λ (a : Answer). a.number) e)
+days_is y r e = days_one r _ (winter_days y) e (sym (either (no_winter y)))
+  where
+    either : (b : Bool) → refuse b (refusal 1) (given (days y ∷ [])) ≡ days_paper (cond b None (Some (days y)))
+    either true = sym (refused _ _ refl)
+    either false = sym (kept _ refl refl)
 
-pub is_winter : (y n : ℕ) (r : Days) → r ≡ Are n → days_paper r ≡ winter_days y → no_winter y ≡ false
-unfolding winter_days
-is_winter y n r q e =
-    either_way (λ (a : Answer). 0 ≡ a.number → no_winter y ≡ false) (no_winter y) (λ t none. absurd (omega arith)) (λ f none. f)
-    (ap (λ (r : Days). (days_paper r).number) (sym q) ∙ ap (λ (a : Answer). a.number) e)
+pub no_winter_lem : (y : ℕ) (r : Option ℕ) → r ≡ None → days_paper r ≡ winter_days y → no_winter y ≡ true
+no_winter_lem y r q e = grind (arith, days_is y r e)
 
-pub winter_count : (y n : ℕ) (r : Days) → r ≡ Are n → days_paper r ≡ winter_days y → n ≡ days y
-unfolding winter_days
-winter_count y n r q e =
-    ap (λ (r : Days). get_or (days_paper r).values 0 0) (sym q)
-    ∙ ap (λ (a : Answer). get_or a.values 0 0) (e ∙ sym (kept (refusal 1) (is_winter y n r q e) refl))
+pub is_winter : (y n : ℕ) (r : Option ℕ) → r ≡ Some n → days_paper r ≡ winter_days y → no_winter y ≡ false
+is_winter y n r q e = grind (arith, days_is y r e)
+
+pub winter_count : (y n : ℕ) (r : Option ℕ) → r ≡ Some n → days_paper r ≡ winter_days y → n ≡ days y
+winter_count y n r q e = grind (arith, days_is y r e)
 
 -- the date of a day of a winter, refused or not
 pub date_walk : (y : ℕ) → no_winter y ≡ false → (d : ℕ) → date_of y d ≡ date_from (month_lengths y) november d

@@ -1,24 +1,15 @@
-// What the calls on dates answer: one case for each thing that can be answered.
-
-// How many days the book of a winter has.
-#[derive(Clone, Copy)]
-pub enum Days {
-    Are(u32),
-    NoWinter,
-}
-
-// A number that belongs to a book day.
-#[derive(Clone, Copy)]
-pub enum Number {
-    Is(u32),
-    NoWinter,
-    NoDay,
-}
+// What the calls on dates give beside a number: a date, and why there is none.
 
 // The date of a book day: month and day of the month.
-#[derive(Clone, Copy)]
-pub enum Date {
-    On(u32, u32),
+#[derive(Clone, Copy, Debug, PartialEq, Eq)]
+pub struct Date {
+    pub month: u32,
+    pub day: u32,
+}
+
+// Why there is no date or no book day: no winter has that name, or its book has no such day.
+#[derive(Clone, Copy, Debug, PartialEq, Eq)]
+pub enum DateError {
     NoWinter,
     NoDay,
 }

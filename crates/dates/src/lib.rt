@@ -6,5 +6,5 @@ mod answers;
 mod dates;
 mod winters;
 
-pub use answers::{Date, Days, Number};
+pub use answers::{Date, DateError};
 pub use dates::{book_day_of, date_of, winter_days};

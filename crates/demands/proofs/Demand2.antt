@@ -15,7 +15,7 @@ use Rattle.credit.proofs.Demands.{line_is_answer}
 use Rattle.credit.proofs.Exact.{Settles, accepted_iff_settles}
 use Rattle.credit.specs.Lines.{line_numbers}
 use Rattle.credit.specs.Settlement.{settlement, written}
-use Rattle.energy.proofs.Unsettled.{asked_is}
+use Rattle.energy.proofs.WhyUnsettled.{asked_is}
 use Rattle.energy.specs.Line.{line_of}
 use Rattle.references.specs.ReferenceDays.{free_in}
 use Rattle.event_hours.specs.Days.{masks_of}

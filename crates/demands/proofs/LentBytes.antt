@@ -13,7 +13,7 @@ use Rattle.credit.proofs.Exact.{accepted_iff_settles}
 use Rattle.credit.proofs.SettlementLaws.{settled_room, written_just}
 use Rattle.credit.specs.Lines.{line_numbers}
 use Rattle.credit.specs.Settlement.{settlement, written}
-use Rattle.credit.specs.declared.call.Settlement.{Settlement}
+use Rattle.credit.specs.Settlement.{Settlement}
 use Rattle.notices.specs.Notices.{count_of}
 use Rattle.wire.proofs.RoundTrip.{written_back}
 use Rattle.wire.specs.Bytes.{bytes_to}

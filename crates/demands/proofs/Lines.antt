@@ -15,12 +15,12 @@ use Rattle.references.proofs.FiveFound.{free_zero, why_serves, serves_so, five_f
 use Rattle.references.proofs.ReferenceLaws.{zero_free}
 use Rattle.energy.proofs.HourLaws.{whole_factor}
 use Rattle.references.proofs.Nearest.{Passes, refs_serve, refs_fall, refs_all}
-use Rattle.energy.proofs.Unsettled.{Why, line_why, settled_where, settled_only, asked_is}
+use Rattle.energy.proofs.WhyUnsettled.{Why, line_why, settled_where, settled_only, asked_is}
 use Rattle.energy.specs.Asked.{Asked, asked_with, needed}
 use Rattle.energy.specs.Energy.{energy_of}
 use Rattle.energy.specs.Line.{line_of}
 use Rattle.references.specs.ReferenceDays.{free_in, serves, reference_days}
-use Rattle.energy.specs.declared.events.Event.{Event}
+use Rattle.energy.specs.Event.{Event}
 use Rattle.event_hours.proofs.FreeDays.{mask_free}
 use Rattle.event_hours.specs.Days.{masks_of}
 use Rattle.laws.proofs.Every.{Every, imply}

@@ -26,10 +26,9 @@ use Rattle.power.proofs.SettlementLaws.{number_is, settled_accepted, settles_rea
 use Rattle.power.specs.Credit.{credit_of}
 use Rattle.power.specs.Lines.{power_line_numbers, power_lines_in, reduction_at, settled_at}
 use Rattle.power.specs.Ready.{AllReady, Ready}
-use Rattle.power.specs.Reduced.{needed_of, reduced_of, reference_at, reduced_at}
+use Rattle.power.specs.Reduced.{Reduced, needed_of, reduced_of, reference_at, reduced_at}
 use Rattle.power.specs.Refusals.{power_table}
 use Rattle.power.specs.Settlement.{power_totals_of, power_settlement, power_written}
-use Rattle.power.specs.declared.events.Reduced.{Reduced}
 use Rattle.demands.specs.PowerDemand.{PowerLine, PowerCredit, PowerDemand}
 use Rattle.demands.specs.PowerSheet.{PowerSheet, power_output}
 use Rattle.demands.proofs.ByFault.{settled_exactly, settled_so, unsettled_so}

@@ -21,11 +21,10 @@ use Rattle.power.proofs.SettlementLaws.{number_is, settled_accepted}
 use Rattle.power.specs.Credit.{credit_of}
 use Rattle.power.specs.Lines.{power_line_numbers, power_lines_to, reduction_at, settled_at}
 use Rattle.power.specs.Ready.{MeanFits}
-use Rattle.power.specs.Reduced.{reference_at, reduced_at}
+use Rattle.power.specs.Reduced.{Reduced, reference_at, reduced_at}
 use Rattle.power.specs.Refusals.{total_numbers, power_table}
 use Rattle.power.specs.Settlement.{power_totals_of}
-use Rattle.power.specs.declared.call.PowerSettlement.{PowerSettlement}
-use Rattle.power.specs.declared.events.Reduced.{Reduced}
+use Rattle.power.specs.Settlement.{PowerSettlement}
 use Rattle.wire.proofs.RoundTrip.{written_back}
 use Rattle.wire.specs.Decoded.{decoded}
 use Rattle.demands.specs.Faces.{number64}

@@ -12,14 +12,14 @@ use Rattle.credit.proofs.Exact.{Settles, accepted_iff_settles}
 use Rattle.credit.proofs.LineLaws.{energy_same, total_few}
 use Rattle.credit.proofs.SettlementLaws.{number_is, settled_accepted}
 use Rattle.credit.specs.Settlement.{settlement, written}
-use Rattle.credit.specs.declared.call.Settlement.{Settlement}
+use Rattle.credit.specs.Settlement.{Settlement}
 use Rattle.dates.proofs.Promise.{days_range}
 use Rattle.energy.proofs.CallLaws.{event_given}
 use Rattle.energy.proofs.EventLaws.{needed_in, answer_most}
-use Rattle.energy.proofs.Unsettled.{line_small}
+use Rattle.energy.proofs.WhyUnsettled.{line_small}
 use Rattle.energy.specs.Asked.{Asked, asked_by}
 use Rattle.energy.specs.Line.{EventAnswer, line_of, event_answer}
-use Rattle.energy.specs.declared.events.Event.{Event}
+use Rattle.energy.specs.Event.{Event}
 use Rattle.event_hours.specs.Days.{masks_of}
 use Rattle.laws.proofs.SumLaws.{run_first, sum_grows}
 use Rattle.laws.specs.Bounds.{largest_energy}

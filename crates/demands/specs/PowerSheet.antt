@@ -3,7 +3,7 @@
 -- Assumes nothing.
 use Rattle.std.specs.Prelude.{ℕ, ◌+◌, ◌*◌, List, get_or}
 use Rattle.power.specs.Lines.{power_line_numbers}
-use Rattle.power.specs.declared.call.PowerSettlement.{PowerSettlement}
+use Rattle.power.specs.Settlement.{PowerSettlement}
 use Rattle.demands.specs.Faces.{number64}
 
 pub record PowerSheet : Type 0 where

@@ -7,15 +7,15 @@ use mathlib.Core.List.{List, [], ◌∷◌, ◌++◌, map}
 use mathlib.Core.Path.{◌≡◌, refl, sym, ap}
 use native.Mathlib.Omega.{arith}
 use borrow.Author.Tests.{leb-true}
-use Rattle.book.proofs.FirstFault.{Holds, no_fault}
 use Rattle.book.proofs.RunLaws.{run_more, run_none}
+use Rattle.book.proofs.FirstFault.{Holds, no_fault}
 use Rattle.book.specs.Places.{run}
 use Rattle.book.specs.Readings.{reading_at}
 use Rattle.book.specs.Values.{largest_reading, is_reading}
-use Rattle.book.specs.declared.values.Fault.TheVariants.{Clean}
+use Rattle.std.specs.Prelude.{None}
 use Rattle.laws.proofs.Every.{Every, joined, imply, mapped}
 use Rattle.laws.proofs.Guards.{both}
-use Rattle.energy.specs.HoursOf.{warm_run, event_run}
+use Rattle.energy.specs.HoursOf.{run_hours, warm_run, event_run}
 use Rattle.energy.specs.Line.{by_fault}
 use Rattle.energy.specs.Parts.{parts_fault, highest_at, all_readings, parts_energy, parts_line}
 use Rattle.energy.specs.Trimmed.{largest_of}
@@ -35,18 +35,16 @@ pub no_hour : (parts : List (List ℕ)) (h to : ℕ) → to ≤ h → true ≡ a
 unfolding all_readings
 no_hour parts h to b = rw (run_none h to b)
 
--- the warm-up hours: the one run where the other is empty, else both
+-- the warm-up hours: both runs
 all_joined : (parts : List (List ℕ)) (xs ys : List ℕ) → all_readings parts (xs ++ ys) ≡ (all_readings parts xs && all_readings parts ys)
 unfolding all_readings
 all_joined parts [] ys = refl
 all_joined parts (h ∷ xs) ys = rw (all_joined parts xs ys) (sym (and_assoc (is_reading (highest_at parts h)) (all_readings parts xs) (all_readings parts ys)))
 
-module _ (parts : List (List ℕ)) (hours : Hours) {warm : Bool} (is : warm ≡ all_readings parts (run hours.warm hours.pause)) where
-  pub whole_readings : hours.gap ≤ hours.early → warm ≡ all_readings parts (warm_run hours)
-  whole_readings none = rw (run_none hours.early hours.gap none) is
-
-  pub split_readings : {early : Bool} → early ≡ all_readings parts (run hours.early hours.gap) → (early && warm) ≡ all_readings parts (warm_run hours)
-  split_readings e = rw (all_joined parts (run hours.early hours.gap) (run hours.warm hours.pause), ← e, ← is)
+pub warm_all : (parts : List (List ℕ)) (hours : Hours) {early warm : Bool}
+    → early ≡ all_readings parts (run_hours hours.early) → warm ≡ all_readings parts (run_hours hours.warm)
+    → (early && warm) ≡ all_readings parts (warm_run hours)
+warm_all parts hours e is = rw (all_joined parts (run_hours hours.early) (run_hours hours.warm), ← e, ← is)
 
 -- where the highest is a reading each is
 each_most : (m : ℕ) (xs : List ℕ) → largest_of xs ≤ m → Every (λ (x : ℕ). x ≤ m) xs
@@ -67,7 +65,7 @@ hours_hold parts (h ∷ hours) e =
     let most = each_most largest_reading (map (λ (p : List ℕ). reading_at p h) parts) (leb-true (highest_at parts h) largest_reading all.0) in
     (mapped _ (λ (p : List ℕ). reading_at p h) parts most, hours_hold parts hours all.1)
 
-clean_days : (hours ds : List ℕ) (parts : List (List ℕ)) → Every (HourHolds parts) hours → Clean ≡ parts_fault hours Clean ds parts
+clean_days : (hours ds : List ℕ) (parts : List (List ℕ)) → Every (HourHolds parts) hours → None ≡ parts_fault hours None ds parts
 unfolding parts_fault
 clean_days hours [] parts all = refl
 clean_days hours (d ∷ ds) [] all = refl
@@ -76,14 +74,14 @@ clean_days hours (d ∷ ds) (p ∷ ps) all =
     (clean_days hours ds ps (imply (HourHolds (p ∷ ps)) (HourHolds ps) (λ h x. x.1) hours all))
 
 all_clean : (xs ys ds : List ℕ) (parts : List (List ℕ)) → all_readings parts xs ≡ true → all_readings parts ys ≡ true
-    → Clean ≡ parts_fault (xs ++ ys) Clean ds parts
+    → None ≡ parts_fault (xs ++ ys) None ds parts
 all_clean xs ys ds parts first second =
     clean_days (xs ++ ys) ds parts (joined (HourHolds parts) xs ys (hours_hold parts xs first) (hours_hold parts ys second))
 
 -- and so the event is settled
 pub clean_line : (day : ℕ) (refs : List ℕ) (hours : Hours) (event : List ℕ) (parts : List (List ℕ)) {energy : ℕ} → energy ≡ parts_energy hours event parts
     → all_readings (event ∷ parts) (warm_run hours) ≡ true → all_readings (event ∷ parts) (event_run hours) ≡ true
-    → by_fault Clean energy ≡ parts_line day refs hours event parts
+    → by_fault None energy ≡ parts_line day refs hours event parts
 unfolding parts_line
 clean_line day refs hours event parts e warm own =
-    rw (← all_clean (warm_run hours) (event_run hours) (day ∷ refs) (event ∷ parts) warm own) (ap (by_fault Clean) e)
+    rw (← all_clean (warm_run hours) (event_run hours) (day ∷ refs) (event ∷ parts) warm own) (ap (by_fault None) e)

@@ -16,7 +16,8 @@ use Rattle.book.proofs.SumLaws.{sum_most}
 use Rattle.book.specs.Places.{InDay, hours_from}
 use Rattle.book.specs.Readings.{drawn_at, first_fault}
 use Rattle.book.specs.Values.{largest_reading}
-use Rattle.book.specs.declared.values.Fault.TheVariants.{Clean, Missing, TooLarge}
+use Rattle.std.specs.Prelude.{Option, Some, None}
+use Rattle.book.specs.declared.values.Fault.TheVariants.{Missing, TooLarge}
 use Rattle.book.specs.declared.values.Fault.{Fault}
 use Rattle.calendar.specs.declared.answers.Winter.{Winter}
 use Rattle.laws.specs.Table.{first_of}
@@ -27,12 +28,12 @@ use Rattle.energy.specs.Energy.{trimmed_at, energy_of}
 use Rattle.energy.specs.Line.{by_fault, line_of, event_rows, unless_refused, event_answer}
 use Rattle.references.specs.ReferenceDays.{free_in, reference_days}
 use Rattle.references.specs.WarmUp.{warm_up}
-use Rattle.energy.specs.declared.events.Event.{Event}
+use Rattle.energy.specs.Event.{Event}
 use Rattle.energy.proofs.CallLaws.{call_taken}
 use Rattle.energy.proofs.EnergyBound.{trimmed_bound, spared_bound}
 use Rattle.energy.proofs.HourLaws.{warm_below}
 use Rattle.references.proofs.Nearest.{refs_serve, refs_few}
-use Rattle.energy.proofs.Unsettled.{Why, line_why}
+use Rattle.energy.proofs.WhyUnsettled.{Why, line_why}
 
 -- readings: those of a clean event are at most the largest
 module _ (book : List ℕ) (q : Asked) (five : length q.refs ≡ 5) (all : Every (Holds book) (needed q)) where
@@ -64,10 +65,10 @@ module _ (book : List ℕ) (q : Asked) (five : length q.refs ≡ 5) (all : Every
 
 -- so a line of at most four event hours and five reference days has no more than the largest energy
 module _ (book : List ℕ) (q : Asked) (few_refs : length q.refs ≤ 5) (few_hours : length q.event ≤ 4) where
-  by_fault_lem : (f : Fault) → 5 ≤ length q.refs → FaultTells book (needed q) f → (by_fault f (energy_of book q)).energy ≤ largest_energy
-  by_fault_lem Clean five told = readings_most book q (omega arith) told few_hours
-  by_fault_lem (Missing p) five told = omega arith
-  by_fault_lem (TooLarge p) five told = omega arith
+  by_fault_lem : (f : Option Fault) → 5 ≤ length q.refs → FaultTells book (needed q) f → (by_fault f (energy_of book q)).energy ≤ largest_energy
+  by_fault_lem None five told = readings_most book q (omega arith) told few_hours
+  by_fault_lem (Some (Missing p)) five told = omega arith
+  by_fault_lem (Some (TooLarge p)) five told = omega arith
 
   pub energy_most : (line_of book q).energy ≤ largest_energy
   energy_most = by (line_of book q) (line_why book q)

@@ -9,10 +9,11 @@ use mathlib.Core.Path.{◌≡◌}
 use native.Mathlib.Omega.{arith}
 use lib.Dec.{ltb}
 use lib.ListN.{length, length-append}
+use Rattle.std.specs.Prelude.{Option}
 use Rattle.book.proofs.FirstFault.{fault_among}
-use Rattle.book.proofs.RunLaws.{run_long, run_below, run_none}
+use Rattle.book.proofs.RunLaws.{run_long, run_below}
 use Rattle.book.proofs.SumLaws.{sum_joined}
-use Rattle.book.specs.Places.{InDay, run}
+use Rattle.book.specs.Places.{InDay}
 use Rattle.book.specs.Readings.{first_fault, sum_over}
 use Rattle.book.specs.Values.{AtPlace}
 use Rattle.book.specs.declared.values.Fault.{Fault}
@@ -27,9 +28,10 @@ use Rattle.notices.specs.declared.profiles.Figures.{Figures}
 use Rattle.notices.specs.declared.profiles.Profile.TheVariants.{Credit}
 use Rattle.references.proofs.WarmUpLaws.{warm_long, warm_before}
 use Rattle.references.specs.WarmUp.{warm_up}
-use Rattle.energy.specs.HoursOf.{Spans, RunIn, HoursIn, warm_run, event_run, warm_count}
+use Rattle.energy.specs.HoursOf.{Spans, RunIn, HoursIn, run_hours, warm_run, event_run, warm_count}
 use Rattle.energy.specs.Ready.{WarmSum}
 use Rattle.energy.specs.declared.hours.Hours.{Hours}
+use Rattle.energy.specs.declared.hours.Run.{Run}
 
 -- hours that are not refused under the winter credit lie in a band (rules 4.12 and 4.28)
 pub in_band : (f : Figures) (n : Notice) → f ≡ figures_of Credit → bad_hours f n ≡ false → Spans n.start n.end
@@ -43,20 +45,20 @@ in_band f n is e =
 
 -- the warm-up and the event hours that the code holds are hours of the day
 module _ (hours : Hours) (inside : HoursIn hours) where
-  in_run : (from to : ℕ) → RunIn from to → Every InDay (run from to)
-  in_run from to i = run_below from to i.in_order i.in_day
+  in_run : (r : Run) → RunIn r → Every InDay (run_hours r)
+  in_run r i = run_below r.from r.to i.in_order i.in_day
 
   pub warm_hours : Every InDay (warm_run hours)
   warm_hours =
-      joined InDay (run hours.early hours.gap) (run hours.warm hours.pause)
-      (in_run hours.early hours.gap inside.early_in)
-      (in_run hours.warm hours.pause inside.warm_in)
+      joined InDay (run_hours hours.early) (run_hours hours.warm) (in_run hours.early inside.early_in) (in_run hours.warm inside.warm_in)
 
   pub event_hours_lem : Every InDay (event_run hours)
-  event_hours_lem = in_run hours.start hours.end inside.event_within
+  event_hours_lem = in_run hours.event inside.event_within
 
 -- and so a fault among them is told at one
-pub hours_told_lem : (part : List ℕ) (hours : Hours) → HoursIn hours → {f : Fault} → f ≡ first_fault part (warm_run hours ++ event_run hours) → AtPlace InDay f
+pub hours_told_lem : (part : List ℕ) (hours : Hours) → HoursIn hours → {f : Option Fault}
+    → f ≡ first_fault part (warm_run hours ++ event_run hours)
+    → AtPlace InDay f
 hours_told_lem part hours inside e =
     rw e
     (fault_among part InDay (warm_run hours ++ event_run hours)
@@ -66,23 +68,18 @@ hours_told_lem part hours inside e =
 pub warm_counted : (hours : Hours) → length (warm_run hours) ≡ warm_count hours
 warm_counted hours =
     rw (
-      length-append (run hours.early hours.gap) (run hours.warm hours.pause),
-      run_long hours.early hours.gap,
-      run_long hours.warm hours.pause,
+      length-append (run_hours hours.early) (run_hours hours.warm),
+      run_long hours.early.from hours.early.to,
+      run_long hours.warm.from hours.warm.to,
     )
 
--- a sum over them is that over the one run where the other is empty, else over both
-pub whole_sum : (f : ℕ → ℕ) (hours : Hours) {warm : ℕ} → hours.gap ≤ hours.early
-    → warm ≡ sum_over f (run hours.warm hours.pause) → warm < 2 ^ 40
-    → WarmSum f hours warm
-whole_sum f hours none warm-is warm-small = record { is = rw (run_none hours.early hours.gap none) warm-is; small = omega arith }
-
+-- a sum over them is that over their two runs
 pub warm_sum : (f : ℕ → ℕ) (hours : Hours) {early warm : ℕ}
-    → early ≡ sum_over f (run hours.early hours.gap) → early < 2 ^ 40
-    → warm ≡ sum_over f (run hours.warm hours.pause) → warm < 2 ^ 40
+    → early ≡ sum_over f (run_hours hours.early) → early < 2 ^ 40
+    → warm ≡ sum_over f (run_hours hours.warm) → warm < 2 ^ 40
     → WarmSum f hours (early + warm)
 warm_sum f hours early-is early-small warm-is warm-small = record {
-  is = rw (sum_joined f (run hours.early hours.gap) (run hours.warm hours.pause), ← early-is, ← warm-is);
+  is = rw (sum_joined f (run_hours hours.early) (run_hours hours.warm), ← early-is, ← warm-is);
   small = omega arith;
 }
 

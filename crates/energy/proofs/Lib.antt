@@ -8,10 +8,11 @@ pub mod EventLaws
 pub mod HourLaws
 pub mod LineLaws
 pub mod OneOutcome
+pub mod PaperLaws
 pub mod Scaled
 pub mod Signs
 pub mod SparedLaws
 pub mod SplitHours
 pub mod TrimmedLaws
 pub mod Unread
-pub mod Unsettled
+pub mod WhyUnsettled

@@ -6,21 +6,23 @@ use mathlib.Core.Bool.{Bool, true, false, ◌&&◌, ◌||◌}
 use mathlib.Core.Path.{◌≡◌, refl, sym}
 use native.Mathlib.Omega.{arith}
 use lib.Dec.{leb, ltb, eqb}
-use borrow.Author.Tests.{le-leb, lt-leb, leb-true, leb-false, ltb-true, ltb-false, eqb-true, eq-eqb, ne_eqb}
+use borrow.Author.Tests.{le-leb, lt-leb, leb-true, leb-false, ltb-true, ltb-false, eqb-true, eqb-false, eq-eqb, ne_eqb}
 use Rattle.book.proofs.RunLaws.{run_from, run_none}
-use Rattle.calendar.proofs.Answered.{forward_on}
+use Rattle.calendar.proofs.Promise.{days_few}
+use Rattle.calendar.proofs.Answered.{forward_on, forward_told}
+use Rattle.std.specs.Option.{option_eq}
+use Rattle.std.specs.Prelude.{Option, Some, None}
 use Rattle.calendar.proofs.ClockLaws.{forward_sunday}
 use Rattle.calendar.specs.Answers.{change_paper, forward_day}
 use Rattle.calendar.specs.Clocks.{clocks_forward, passed_hour}
 use Rattle.calendar.specs.Days.{wrong_winter, march_eighth}
-use Rattle.calendar.specs.declared.answers.Change.TheVariants.{On}
-use Rattle.calendar.specs.declared.answers.Change.{Change}
 use Rattle.calendar.specs.declared.answers.Winter.{Winter}
 use Rattle.laws.proofs.Guards.{both, neither}
 use Rattle.references.proofs.Ahead.{ahead_range}
 use Rattle.references.proofs.WarmUpLaws.{around_passed, warm_run_lem}
 use Rattle.references.specs.WarmUp.{longest_ahead}
 use Rattle.energy.specs.HoursOf.{Spans, HoursFor, is_split}
+use Rattle.energy.specs.declared.hours.Run.{Run}
 
 -- whether the passed hour lies between
 module _ (w : Winter) (day s : ℕ) where
@@ -55,17 +57,35 @@ module _ (w : Winter) (day s : ℕ) where
           rw (ne_eqb day (clocks_forward w) (λ (e : day ≡ clocks_forward w). omega (arith, (forward_sunday w right).not_before)))
           (and_false (leb s (passed_hour + 5)))
 
+  pub early_days : wrong_winter w ≡ false → 24 ≤ w.days
+  early_days right = omega (arith, days_few w right)
+
   pub split_sunday : wrong_winter w ≡ false → (ltb (passed_hour + 5) s || ltb day (march_eighth w.days)) ≡ false
-      → {r : Change} {forward : ℕ} → r ≡ On forward → change_paper r ≡ forward_day w → eqb day forward ≡ is_split w day s
+      → (r : Option ℕ) → change_paper r ≡ forward_day w → option_eq eqb r (Some day) ≡ is_split w day s
   unfolding is_split
-  split_sunday right early q e =
+  split_sunday right early r e =
       let p = neither (ltb (passed_hour + 5) s) (ltb day (march_eighth w.days)) early in
-      rw (le-leb s (passed_hour + 5) (ltb-false (passed_hour + 5) s p.0), forward_on w right q e)
+      rw (le-leb s (passed_hour + 5) (ltb-false (passed_hour + 5) s p.0)) (by r e)
+    where
+      turned : (a b : ℕ) → eqb a b ≡ eqb b a
+      turned a b = either (eqb b a) refl
+        where
+          either : (t : Bool) → eqb b a ≡ t → eqb a b ≡ t
+          either true e = eq-eqb a b (sym (eqb-true b a e))
+          either false e = ne_eqb a b (λ (h : a ≡ b). eqb-false b a e (sym h))
+
+      by : (r : Option ℕ) → change_paper r ≡ forward_day w → option_eq eqb r (Some day) ≡ eqb day (clocks_forward w)
+      by None e = absurd (forward_told w right refl e)
+      by (Some forward) e = rw (forward_on w right refl e) (turned (clocks_forward w) day)
+
+-- a run by its two ends
+abbrev as_run : ℕ → ℕ → Run
+as_run from to = record { from = from; to = to }
 
 -- the hours that the code holds are those of the event
 module _ (w : Winter) (day s e : ℕ) (p : Spans s e) where
   pub split_hours : is_split w day s ≡ true
-      → HoursFor w day s e (record { early = s - 6; gap = passed_hour; warm = passed_hour + 1; pause = s - 2; start = s; end = e })
+      → HoursFor w day s e (record { early = as_run (s - 6) passed_hour; warm = as_run (passed_hour + 1) (s - 2); event = as_run s e })
   split_hours split =
       let so = split_so w day s split in
       record {
@@ -81,7 +101,7 @@ module _ (w : Winter) (day s e : ℕ) (p : Spans s e) where
       }
 
   pub whole_hours : is_split w day s ≡ false → (from : ℕ) → from ≡ s - longest_ahead s
-      → HoursFor w day s e (record { early = from; gap = from; warm = from; pause = s - 2; start = s; end = e })
+      → HoursFor w day s e (record { early = as_run from from; warm = as_run from (s - 2); event = as_run s e })
   whole_hours whole from is =
       record {
         warm_are = rw (run_none from from (omega arith), is) (sym (warm_run_lem w day s (whole_so w day s whole)));

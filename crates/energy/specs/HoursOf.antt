@@ -7,17 +7,25 @@ use Rattle.calendar.specs.Clocks.{clocks_forward, passed_hour}
 use Rattle.calendar.specs.declared.answers.Winter.{Winter}
 use Rattle.energy.specs.Asked.{Asked}
 use Rattle.energy.specs.declared.hours.Hours.{Hours}
+use Rattle.energy.specs.declared.hours.Run.{Run}
 use Rattle.references.specs.WarmUp.{warm_up}
 
+-- the hours of a run, and how many they are
+abbrev pub run_hours : Run → List ℕ
+run_hours r = run r.from r.to
+
+abbrev pub run_count : Run → ℕ
+run_count r = r.to - r.from
+
 abbrev pub warm_run : Hours → List ℕ
-warm_run hours = run hours.early hours.gap ++ run hours.warm hours.pause
+warm_run hours = run_hours hours.early ++ run_hours hours.warm
 
 abbrev pub event_run : Hours → List ℕ
-event_run hours = run hours.start hours.end
+event_run hours = run_hours hours.event
 
 -- W, the number of warm-up hours
 abbrev pub warm_count : Hours → ℕ
-warm_count hours = hours.gap - hours.early + (hours.pause - hours.warm)
+warm_count hours = run_count hours.early + run_count hours.warm
 
 -- what is asked of a book by an event day, hours and reference days as the code holds them
 abbrev pub asked_in : ℕ → Hours → List ℕ → Asked
@@ -35,17 +43,17 @@ unfoldable pub is_split : Winter → ℕ → ℕ → Bool
 is_split w day s = leb s (passed_hour + 5) && eqb day (clocks_forward w)
 
 -- what the private functions ask of a run of hours: it lies in the day
-pub record RunIn (from to : ℕ) : Type 0 where
-  pub in_order : from ≤ to
-  pub in_day : to ≤ day_hours
+pub record RunIn (r : Run) : Type 0 where
+  pub in_order : r.from ≤ r.to
+  pub in_day : r.to ≤ day_hours
 
 -- and of an event's hours: two warm-up hours at least and four event hours at most
 pub record HoursIn (hours : Hours) : Type 0 where
-  pub early_in : RunIn hours.early hours.gap
-  pub warm_in : RunIn hours.warm hours.pause
+  pub early_in : RunIn hours.early
+  pub warm_in : RunIn hours.warm
   pub two_warm : 2 ≤ warm_count hours
-  pub event_within : RunIn hours.start hours.end
-  pub few_event : hours.end ≤ hours.start + 4
+  pub event_within : RunIn hours.event
+  pub few_event : hours.event.to ≤ hours.event.from + 4
 
 -- the hours of the event from start to end - 1 on a day
 pub record HoursFor (w : Winter) (day start end : ℕ) (r : Hours) : Type 0 where

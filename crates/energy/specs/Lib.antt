@@ -2,6 +2,7 @@ pub mod Asked
 pub mod Trimmed
 pub mod Spared
 pub mod Energy
+pub mod Event
 pub mod HoursOf
 pub mod Line
 pub mod Parts

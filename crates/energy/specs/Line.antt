@@ -1,37 +1,30 @@
 -- The line of an event: code, place and energy; and the answer of the call on one event.
 -- Assumes nothing.
-use Rattle.std.specs.Prelude.{ℕ, zero, suc, not, cond, List, ◌∷◌, ltb, length}
+use Rattle.std.specs.Prelude.{ℕ, zero, suc, not, cond, List, ◌∷◌, Option, Some, None, Result, Ok, Err, ltb, length}
 use Rattle.book.specs.Length.{wrong_length}
 use Rattle.book.specs.Readings.{first_fault}
 use Rattle.book.specs.declared.values.Fault.{Fault}
-use Rattle.book.specs.declared.values.Fault.TheVariants.{Clean, Missing, TooLarge}
+use Rattle.book.specs.declared.values.Fault.TheVariants.{Missing, TooLarge}
 use Rattle.calendar.specs.Days.{wrong_winter, in_period}
 use Rattle.calendar.specs.declared.answers.Winter.{Winter}
 use Rattle.laws.specs.Table.{Row, row, first_of}
-use Rattle.notices.specs.HoursVerdict.{hour_rows, fault_number}
+use Rattle.notices.specs.HoursVerdict.{hour_rows}
 use Rattle.notices.specs.Profiles.{figures_of}
 use Rattle.notices.specs.declared.notices.Notice.{Notice}
 use Rattle.notices.specs.declared.profiles.Profile.TheVariants.{Credit}
 use Rattle.energy.specs.Asked.{Asked, asked_by, needed}
 use Rattle.energy.specs.Energy.{energy_of}
+use Rattle.energy.specs.Event.{Event, settled, unsettled, event_paper}
+use Rattle.energy.specs.declared.events.Unsettled.{Unsettled}
 use Rattle.references.specs.ReferenceDays.{free_in}
-use Rattle.energy.specs.declared.events.Event.{Event}
-use Rattle.energy.specs.declared.call.Line.{Line}
-use Rattle.energy.specs.declared.call.Line.TheVariants as LineCase
-
--- a settled event has code 0 (rule 5.11)
-abbrev pub settled : ℕ → Event
-settled energy = record { code = 0; place = 0; energy = energy }
-
--- one that is left unsettled has no energy (rule 5.11)
-abbrev pub unsettled : ℕ → ℕ → Event
-unsettled code place = record { code = code; place = place; energy = 0 }
+use Rattle.refusals.specs.Refusals.{rule_number}
+use Rattle.refusals.specs.declared.rule.Rule.{Rule}
 
 -- by the first fault among the needed readings (rules 5.9 and 5.10)
-abbrev pub by_fault : Fault → ℕ → Event
-by_fault Clean energy = settled energy
-by_fault (Missing p) energy = unsettled 21 p
-by_fault (TooLarge p) energy = unsettled 22 p
+abbrev pub by_fault : Option Fault → ℕ → Event
+by_fault None energy = settled energy
+by_fault (Some (Missing p)) energy = unsettled 21 p
+by_fault (Some (TooLarge p)) energy = unsettled 22 p
 
 -- rules 5.8, 5.9, 5.10 and 5.11: the line, the code 20 tried before all others
 unfoldable pub line_of : List ℕ → Asked → Event
@@ -46,12 +39,9 @@ abbrev pub told : ℕ → Event → EventAnswer
 told number event = record { number = number; event = event }
 
 -- the paper's number and event for each case (rule 4.25)
-abbrev pub line_paper : Line → EventAnswer
-line_paper (LineCase.Is event) = told 0 event
-line_paper LineCase.NoWinter = told 1 (settled 0)
-line_paper LineCase.BadBook = told 2 (settled 0)
-line_paper LineCase.OutsidePeriod = told 10 (settled 0)
-line_paper (LineCase.BadHours fault) = told (fault_number fault) (settled 0)
+abbrev pub line_paper : Result (Result ℕ Unsettled) Rule → EventAnswer
+line_paper (Ok event) = told 0 (event_paper event)
+line_paper (Err rule) = told (rule_number rule) (settled 0)
 
 -- rule 4.24: what refuses the call on one event, by how many readings the book has
 unfoldable pub event_rows : Winter → ℕ → Notice → List Row

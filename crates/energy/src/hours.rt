@@ -1,34 +1,53 @@
 // The hours of an event: runs of hours of a day.
 ghost use Rattle.std.specs.Prelude.{◌≡◌, false};
 ghost use Rattle.calendar.specs.Days.{wrong_winter};
-ghost use Rattle.energy.specs.HoursOf.{Spans, HoursIn, warm_count, is_split, HoursFor};
+ghost use Rattle.energy.specs.HoursOf.{Spans, RunIn, HoursIn, run_count, warm_count, is_split, HoursFor};
 
-use calendar::{Change, Winter};
+use calendar::Winter;
 use notices::Profile;
 
-// The warm-up hours are those from `early` to `gap` - 1 and those from `warm` to `pause` - 1, the event hours those from `start` to
-// `end` - 1. Early ones there are only where the clocks pass over an hour between. So that run is nearly always empty, and then no loop
-// goes over it.
+// The hours of a day from one up to another, which is not one of them.
+#[derive(Clone, Copy)]
+pub struct Run {
+    pub from: u32,
+    pub to: u32,
+}
+
+// The warm-up hours of an event in two runs, and its own. Early ones there are only where the clocks pass over an hour between: that run is
+// nearly always empty.
 #[derive(Clone, Copy)]
 pub struct Hours {
-    pub early: u32,
-    pub gap: u32,
-    pub warm: u32,
-    pub pause: u32,
-    pub start: u32,
-    pub end: u32,
+    pub early: Run,
+    pub warm: Run,
+    pub event: Run,
 }
 
-// W, the number of warm-up hours.
-pub(crate) fn warm_count(hours: Hours) -> u64
-    requires { HoursIn hours }
-    ensures { result ≡ warm_count hours }
-{
-    (hours.gap - hours.early) as u64 + (hours.pause - hours.warm) as u64
+impl Run {
+    // How many hours the run has.
+    pub(crate) fn count(self) -> u64
+        requires { RunIn self }
+        ensures { result ≡ run_count self }
+    {
+        u64::from(self.to - self.from)
+    }
 }
 
+impl Hours {
+    // W, the number of warm-up hours. That they are hours of a day stays a `requires` (`HoursIn`), and no field of `Hours`: where it is made more is said
+    // of it (`HoursFor`), of which that is a part.
+    pub(crate) fn warm_count(self) -> u64
+        requires { HoursIn self }
+        ensures { result ≡ warm_count self }
+    {
+        self.early.count() + self.warm.count()
+    }
+}
+
+// That a winter is one stays a `requires` here, of `hours_of` and of `in_period`: `settle_event` takes any `Winter` and asks it once, and a struct that
+// holds the fact would be made for these calls and opened in each.
 // Whether the passed hour lies between the warm-up hours: on the Sunday the clocks go forward, of an event that starts at 6 or 7. It need
 // not be asked for before 8 March.
+#[tactic(auto, using(crate::proofs::SplitHours::early_days, crate::proofs::SplitHours::never_split, crate::proofs::SplitHours::split_sunday))]
 fn is_split(w: Winter, day: u32, start: u32) -> bool
     requires { wrong_winter w ≡ false }
     ensures { result ≡ is_split w day start }
@@ -36,10 +55,7 @@ fn is_split(w: Winter, day: u32, start: u32) -> bool
     if (calendar::PASSED_HOUR + 5 < start) | (day < w.days - calendar::DAYS_FROM_8_MARCH) {
         return false;
     }
-    match calendar::clocks_forward(w) {
-        Change::On(forward) => day == forward,
-        Change::NoWinter => false,
-    }
+    calendar::clocks_forward(w) == Some(day)
 }
 
 // The hours of the event from start to end - 1 on a day: three warm-up hours before a morning event, two before an evening event, in
@@ -49,27 +65,34 @@ pub(crate) fn hours_of(w: Winter, day: u32, start: u32, end: u32) -> Hours
     requires spans { Spans start end }
     ensures { HoursFor w day start end result }
 {
-    let pause = start - 2;
+    let to = start - 2;
+    let event = Run {
+        from: start,
+        to: end,
+    };
     if is_split(w, day, start) {
-        return Hours {
-            early: start - 6,
-            gap: calendar::PASSED_HOUR,
-            warm: calendar::PASSED_HOUR + 1,
-            pause,
-            start,
-            end,
+        let early = Run {
+            from: start - 6,
+            to: calendar::PASSED_HOUR,
         };
+        let warm = Run {
+            from: calendar::PASSED_HOUR + 1,
+            to,
+        };
+        return Hours { early, warm, event };
     }
-    let mut warm = start - 4;
-    if start < Profile::CREDIT.evening.start {
-        warm = start - 5;
-    }
-    Hours {
-        early: warm,
-        gap: warm,
-        warm,
-        pause,
-        start,
-        end,
-    }
+    let ahead = if start < Profile::CREDIT.evening.start {
+        5
+    } else {
+        4
+    };
+    let warm = Run {
+        from: start - ahead,
+        to,
+    };
+    let early = Run {
+        from: warm.from,
+        to: warm.from,
+    };
+    Hours { early, warm, event }
 }

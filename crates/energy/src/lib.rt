@@ -2,6 +2,7 @@
 #![tactic(auto)]
 
 mod call;
+mod days;
 mod events;
 mod hours;
 mod lines;
@@ -10,5 +11,5 @@ mod spared;
 mod sums;
 mod trimmed;
 
-pub use call::{Line, settle_event};
-pub use events::{Event, by_fault};
+pub use call::settle_event;
+pub use events::{Event, Unsettled, by_fault, line_numbers};

@@ -12,17 +12,8 @@ fn scaled(x: u64, k: u64) -> u64
     x * k
 }
 
-// a less b, or 0 if that is negative.
-fn floored_difference(a: u64, b: u64) -> u64
-    ensures { result ≡ a - b }
-{
-    if b <= a {
-        return a - b;
-    }
-    0
-}
-
 // The spared energy. The limit stands only above a trial of 40 kWh, and 3A - B is above 2B exactly when A is above B.
+#[tactic(auto, using(crate::proofs::SparedLaws::spared_below, crate::proofs::SparedLaws::spared_uncapped, crate::proofs::SparedLaws::spared_capped))]
 pub(crate) fn spared(h: u64, w: u64, r: u64, b: u64, a: u64, c: u64) -> u64
     requires { SumsFit h w r b a c }
     ensures { result ≡ spared_of h w r b a c }
@@ -30,10 +21,8 @@ pub(crate) fn spared(h: u64, w: u64, r: u64, b: u64, a: u64, c: u64) -> u64
     let k = 6 * h / w;
     let more = 6 * r + scaled(3 * a, k);
     let less = scaled(b, k) + 18 * c;
-    if 720000 + less < more {
-        if b < a {
-            return floored_difference(6 * r + scaled(2 * b, k), 18 * c);
-        }
+    if 720000 + less < more && b < a {
+        return (6 * r + scaled(2 * b, k)).saturating_sub(18 * c);
     }
-    floored_difference(more, less)
+    more.saturating_sub(less)
 }

@@ -1,49 +1,35 @@
 // T of an hour: rule 6.2.
-ghost use Rattle.std.specs.Prelude.{◌≡◌, [], ◌∷◌, min, max};
+ghost use Rattle.std.specs.Prelude.{◌≡◌};
 ghost use Rattle.energy.specs.Ready.{IsTrimmed};
 ghost use Rattle.energy.specs.Trimmed.{sum_of, smallest_of, largest_of};
 
-// The smaller of two numbers.
-fn smaller(a: u32, b: u32) -> u32
-    ensures { result ≡ min a b }
-{
-    if a <= b { a } else { b }
-}
-
-// The larger of two numbers.
-pub(crate) fn larger(a: u32, b: u32) -> u32
-    ensures { result ≡ max a b }
-{
-    if a <= b { b } else { a }
-}
-
 // A smallest of five numbers.
-fn smallest(a: u32, b: u32, c: u32, d: u32, e: u32) -> u32
-    ensures { result ≡ smallest_of (a ∷ b ∷ c ∷ d ∷ e ∷ []) }
+fn smallest(five: &[u32; 5]) -> u32
+    ensures { result ≡ smallest_of five.now }
 {
-    smaller(a, smaller(b, smaller(c, smaller(d, e))))
+    five.iter().copied().min().unwrap_or(0)
 }
 
 // A largest of five numbers.
-pub(crate) fn largest(a: u32, b: u32, c: u32, d: u32, e: u32) -> u32
-    ensures { result ≡ largest_of (a ∷ b ∷ c ∷ d ∷ e ∷ []) }
+pub(crate) fn largest(five: &[u32; 5]) -> u32
+    ensures { result ≡ largest_of five.now }
 {
-    larger(a, larger(b, larger(c, larger(d, e))))
+    five.iter().copied().max().unwrap_or(0)
 }
 
 // The sum of five numbers. In 64 bits it does not wrap.
-fn total(a: u32, b: u32, c: u32, d: u32, e: u32) -> u64
-    ensures { result ≡ sum_of (a ∷ b ∷ c ∷ d ∷ e ∷ []) }
+fn total(five: &[u32; 5]) -> u64
+    ensures { result ≡ sum_of five.now }
 {
-    (a as u64) + (b as u64) + (c as u64) + (d as u64) + (e as u64)
+    five.iter().map(|x| u64::from(*x)).sum()
 }
 
 // One value is dropped at each end, at each hour by itself, and no whole day.
+#[tactic(auto, using(crate::proofs::TrimmedLaws::dropped_within))]
 pub(crate) fn trimmed_of(five: [u32; 5]) -> u64
     ensures { IsTrimmed five result }
 {
-    let low = smallest(five[0], five[1], five[2], five[3], five[4]);
-    let high = largest(five[0], five[1], five[2], five[3], five[4]);
-    let sum = total(five[0], five[1], five[2], five[3], five[4]);
-    sum - (low as u64) - (high as u64)
+    let low = smallest(&five);
+    let high = largest(&five);
+    total(&five) - u64::from(low) - u64::from(high)
 }

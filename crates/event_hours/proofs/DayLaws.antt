@@ -10,9 +10,9 @@ use lib.Dec.{leb, ltb}
 use lib.ListN.{get_or, set, replicate}
 use borrow.Author.Tests.{ltb-false, leb-false, le-ltb, lt-leb}
 use Rattle.laws.proofs.Guards.{neither}
-use Rattle.notices.specs.Notices.{count_of, notice_at}
+use Rattle.notices.specs.Notices.{notice_at}
 use Rattle.notices.specs.declared.notices.Notice.{Notice}
-use Rattle.event_hours.specs.Days.{marks_none, hours_in, with_hours, masks_to, masks_of}
+use Rattle.event_hours.specs.Days.{marks_none, hours_in, with_hours, masks_to}
 
 -- a notice that names hours of a day that a book can have
 pub record Marks (n : Notice) : Type 0 where
@@ -41,7 +41,7 @@ pub with_some : (masks : List ℕ) (n : Notice) (b : ℕ) → marks_none n ≡ f
 unfolding with_hours
 with_some masks n b e q = rw (e, q)
 
--- the walk over the notices: before the first, one notice on, and past the last
+-- the walk over the notices: before the first, and one notice on
 
 pub masks_none : (l : List ℕ) → replicate 152 0 ≡ masks_to l 0
 unfolding masks_to
@@ -51,7 +51,3 @@ pub masks_next : (l : List ℕ) (k : ℕ) {masks next : List ℕ} {n : Notice} �
     → next ≡ masks_to l (k + 1)
 unfolding masks_to
 masks_next l k e q r = rw (add-one k, ← e, ← q) r
-
-pub masks_all : (l : List ℕ) (k : ℕ) {masks : List ℕ} → masks ≡ masks_to l k → k ≡ count_of l → masks ≡ masks_of l
-unfolding masks_of
-masks_all l k e q = rw (← q) e

@@ -6,6 +6,7 @@ use crate::hours::hours_mask;
 use notices::Notice;
 
 // Whether a notice names no hours of a day that a book can have. An accepted list has no such notice, but any list may be lent.
+#[tactic(auto, unfolding(crate::specs::Days::marks_none))]
 fn marks_none(n: Notice) -> bool
     ensures { result ≡ marks_none n }
 {
@@ -13,6 +14,7 @@ fn marks_none(n: Notice) -> bool
 }
 
 // Marks the hours of one notice more, in the lent masks themselves: no array is copied for a notice.
+#[tactic(auto, using(crate::proofs::DayLaws::marks, crate::proofs::DayLaws::with_none, crate::proofs::DayLaws::with_some))]
 fn mark_hours(masks: &mut [u32; 152], n: Notice)
     ensures { masks.new ≡ with_hours masks.old n }
 {
@@ -24,16 +26,13 @@ fn mark_hours(masks: &mut [u32; 152], n: Notice)
 }
 
 // The event hours of all days, all zero at first and filled from the notices of a list, whether or not they stand.
+#[tactic(auto, using(crate::proofs::DayLaws::masks_none, crate::proofs::DayLaws::masks_next), unfolding(crate::specs::Days::masks_of))]
 pub fn masks_of(list: &[u32]) -> [u32; 152]
     ensures { result ≡ masks_of list.now }
 {
     let mut masks = [0u32; 152];
-    let count = notices::count_in(list.len());
-    let mut k: usize = 0;
-    while k < count {
-        let n = notices::notice_at(list, k);
-        mark_hours(&mut masks, n);
-        k += 1;
+    for k in 0..notices::count_in(list.len()) {
+        mark_hours(&mut masks, notices::notice_at(list, k));
     }
     masks
 }

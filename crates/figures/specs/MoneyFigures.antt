@@ -5,7 +5,7 @@ use Rattle.laws.specs.Answer.{Answer, given}
 use Rattle.money.specs.Cents.{cents_at}
 use Rattle.credit.specs.Settlement.{settlement, written}
 use Rattle.money.specs.Worth.{rounded_worth}
-use Rattle.credit.specs.declared.call.Settlement.{Settlement}
+use Rattle.credit.specs.Settlement.{Settlement}
 use Rattle.figures.specs.EnergyFigures.{sample_book, sample_list}
 use Rattle.figures.specs.Figure.{Figure, figure}
 

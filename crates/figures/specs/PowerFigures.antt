@@ -5,7 +5,7 @@ use Rattle.laws.specs.Answer.{Answer, given}
 use Rattle.power.specs.Credit.{credit_of}
 use Rattle.power.specs.Rates.{kilowatt}
 use Rattle.power.specs.Settlement.{power_settlement, power_written}
-use Rattle.power.specs.declared.call.PowerSettlement.{PowerSettlement}
+use Rattle.power.specs.Settlement.{PowerSettlement}
 use Rattle.figures.specs.EnergyFigures.{sample_book, sample_list}
 use Rattle.figures.specs.Figure.{Figure, figure}
 

@@ -9,6 +9,7 @@ use native.Mathlib.Nat.{le_antisymm}
 use native.Mathlib.Omega.{arith}
 use lib.ListN.{length, take, drop, replicate, length-append, length-map, take-append-drop}
 use lib.Seq.{take_at, take-take}
+use Rattle.form.specs.Lines.{breaks}
 use Rattle.laws.proofs.Every.{Every}
 use Rattle.laws.proofs.Order.{either_order}
 use Rattle.numerals.proofs.LineLaws.{lines_append}

@@ -8,14 +8,13 @@ use mathlib.Core.Path.{◌≡◌, ap, ◌∙◌}
 use native.Mathlib.Omega.{arith}
 use lib.ListN.{length, take, replicate, length-append, length-map, length-replicate}
 use lib.Seq.{take-append-le, take-append-add}
+use Rattle.std.specs.Prelude.{Some, None, Ok}
 use Rattle.laws.proofs.Every.{joined}
-use Rattle.numerals.specs.Fields.{keyed_at}
+use Rattle.numerals.specs.Fields.{keyed_at, number}
 use Rattle.numerals.specs.Lines.{line}
 use Rattle.numerals.specs.Words.{bytes_of}
-use Rattle.numerals.specs.declared.fields.Number.TheVariants as number
 use Rattle.form.specs.Document.{event_line, read_line, document_lines, SmallEvent, SmallRead}
 use Rattle.form.specs.Lines.{event_line_at, read_line_at, lines_end}
-use Rattle.form.specs.declared.lines.Lines.TheVariants as lines
 use Rattle.form.proofs.Begins.{body_lines, document_long, Begins, FirstBrokenLine, next_breaks, begins, any_event, any_read, small_events, small_reads}
 use Rattle.form.proofs.BrokenTop.{top_lines, after_top_lem, top_here}
 use Rattle.form.proofs.Converse.{Held, TopRead}
@@ -29,7 +28,7 @@ past_top i = suc (suc (suc i))
 
 module _ (s : List ℕ) (never : Held s → ⊥) {winter price n at : ℕ} (top : TopRead s winter price n at) where
   -- the first i event lines
-  events_begin : (i q : ℕ) → i ≤ n → lines_end (event_line_at s) i at 4 ≡ lines.Whole q → Begins s (past_top i)
+  events_begin : (i q : ℕ) → i ≤ n → lines_end (event_line_at s) i at 4 ≡ Ok q → Begins s (past_top i)
   unfolding document_lines
   events_begin i q few whole =
       let head = top_here s top in
@@ -64,7 +63,7 @@ module _ (s : List ℕ) (never : Held s → ⊥) {winter price n at : ℕ} (top 
       lines_never (events s) b.rest xs at 4 b.writable.events i k few stop.broken
       (rw (take-append-le i (map event_line xs) _ long) at front.after))
 
-  module _ (q : ℕ) (are_events : lines_end (event_line_at s) n at 4 ≡ lines.Whole q) where
+  module _ (q : ℕ) (are_events : lines_end (event_line_at s) n at 4 ≡ Ok q) where
     -- after the event lines, and after the number of read lines
     after_events : (i j : ℕ) → j ≡ n + suc i → (b : Begins s (past_top j)) → Stands s q (take (suc i) (body_lines [] b.document.reads)) b.rest
     after_events i j e b =
@@ -76,20 +75,20 @@ module _ (s : List ℕ) (never : Held s → ⊥) {winter price n at : ℕ} (top 
         lines_front (events s) b.rest b.document.events at 4 b.writable.events (take (suc i) ys) q (rw front.same at are_events)
         (rw there at front.after)
 
-    pub no_counted : (k : ℕ) → keyed_at s q (bytes_of "reads=") ≡ number.Broken → k ≡ n + 4 → FirstBrokenLine s k
+    pub no_counted : (k : ℕ) → keyed_at s q (bytes_of "reads=") ≡ None → k ≡ n + 4 → FirstBrokenLine s k
     no_counted k none e =
         next_breaks s (past_top n) k never (omega arith) (events_begin n q (omega arith) are_events)
         (λ b. keyed_never s b.rest (bytes_of "reads=") q (length b.document.reads) [] b.writable.counted
         (after_events 0 (suc n) (omega arith) b) none)
 
-    module _ (m r : ℕ) (is_counted : keyed_at s q (bytes_of "reads=") ≡ number.Is m r) where
+    module _ (m r : ℕ) (is_counted : keyed_at s q (bytes_of "reads=") ≡ Some (number m r)) where
       after_counted : (i j : ℕ) → j ≡ n + suc i → (b : Begins s (past_top j))
           → KeyedFront s m (length b.document.reads) r (take i (map read_line b.document.reads)) b.rest
       after_counted i j e b =
           keyed_front s b.rest (bytes_of "reads=") q (length b.document.reads) _ b.writable.counted (after_events i j e b) m r is_counted
 
       -- the first i read lines
-      reads_begin : (i t : ℕ) → i ≤ m → lines_end (read_line_at s) i r (n + 4 + 1) ≡ lines.Whole t → Begins s (past_top (n + suc i))
+      reads_begin : (i t : ℕ) → i ≤ m → lines_end (read_line_at s) i r (n + 4 + 1) ≡ Ok t → Begins s (past_top (n + suc i))
       unfolding document_lines
       reads_begin i t few whole =
           let head = top_here s top in
@@ -134,7 +133,7 @@ module _ (s : List ℕ) (never : Held s → ⊥) {winter price n at : ℕ} (top 
           lines_never (reads s) b.rest b.document.reads r (n + 4 + 1) b.writable.reads i k few stop.broken front.after)
 
       -- rule 8.3: values with these lines have no line more
-      pub no_end : (k t : ℕ) → lines_end (read_line_at s) m r (n + 4 + 1) ≡ lines.Whole t → k ≡ n + 4 + 1 + m → FirstBrokenLine s k
+      pub no_end : (k t : ℕ) → lines_end (read_line_at s) m r (n + 4 + 1) ≡ Ok t → k ≡ n + 4 + 1 + m → FirstBrokenLine s k
       no_end k t whole e =
           next_breaks s (past_top (n + suc m)) k never (omega arith) (reads_begin m t (omega arith) whole)
           (λ b. omega (

@@ -6,12 +6,12 @@ use mathlib.Core.List.{List, [], ◌∷◌, ◌++◌}
 use mathlib.Core.Path.{◌≡◌, refl}
 use native.Mathlib.Omega.{arith}
 use lib.ListN.{length, take, drop}
+use Rattle.std.specs.Prelude.{Some, None}
 use Rattle.numerals.proofs.Here.{here_none}
 use Rattle.numerals.proofs.LineLaws.{lines_none}
-use Rattle.numerals.specs.Fields.{Small, keyed_at}
+use Rattle.numerals.specs.Fields.{Small, keyed_at, number}
 use Rattle.numerals.specs.Lines.{Line, line}
 use Rattle.numerals.specs.Words.{bytes_of}
-use Rattle.numerals.specs.declared.fields.Number.TheVariants as number
 use Rattle.form.specs.Document.{document_lines}
 use Rattle.form.proofs.Begins.{body_lines, Begins, FirstBrokenLine, next_breaks, begins}
 use Rattle.form.proofs.Converse.{Held, TopRead}
@@ -31,12 +31,12 @@ module _ (s : List ℕ) where
       (record { winter = small_winter; price = small_price; count = omega arith; events = tt; counted = omega arith; reads = tt })
 
   -- after the line of the winter, after that of the price, and after that of the number of event lines
-  module _ {winter p : ℕ} (is_winter : keyed_at s 0 (bytes_of "winter=") ≡ number.Is winter p) where
+  module _ {winter p : ℕ} (is_winter : keyed_at s 0 (bytes_of "winter=") ≡ Some (number winter p)) where
     after_winter : (j : ℕ) (b : Begins s (suc j)) → Stands s p (take j (drop 1 (document_lines b.document))) b.rest
     unfolding document_lines
     after_winter j b = (keyed_front s b.rest (bytes_of "winter=") 0 b.document.winter _ b.writable.winter b.is winter p is_winter).after
 
-    module _ {price q : ℕ} (is_price : keyed_at s p (bytes_of "price=") ≡ number.Is price q) where
+    module _ {price q : ℕ} (is_price : keyed_at s p (bytes_of "price=") ≡ Some (number price q)) where
       after_price : (j : ℕ) (b : Begins s (suc (suc j))) → Stands s q (take j (drop 2 (document_lines b.document))) b.rest
       unfolding document_lines
       after_price j b =
@@ -70,21 +70,21 @@ module _ (s : List ℕ) where
         }
 
   module _ (k : ℕ) (never : Held s → ⊥) where
-    pub no_winter_lem : keyed_at s 0 (bytes_of "winter=") ≡ number.Broken → k ≡ 1 → FirstBrokenLine s k
+    pub no_winter_lem : keyed_at s 0 (bytes_of "winter=") ≡ None → k ≡ 1 → FirstBrokenLine s k
     unfolding document_lines
     no_winter_lem none e =
         next_breaks s 0 k never e (bare_begins 0 0 0 0 [] _ (omega arith) (omega arith) refl refl (rw lines_none (here_none s 0)))
         (λ b. keyed_never s b.rest (bytes_of "winter=") 0 b.document.winter [] b.writable.winter b.is none)
 
-    module _ {winter p : ℕ} (is_winter : keyed_at s 0 (bytes_of "winter=") ≡ number.Is winter p) where
-      pub no_price : keyed_at s p (bytes_of "price=") ≡ number.Broken → k ≡ 2 → FirstBrokenLine s k
+    module _ {winter p : ℕ} (is_winter : keyed_at s 0 (bytes_of "winter=") ≡ Some (number winter p)) where
+      pub no_price : keyed_at s p (bytes_of "price=") ≡ None → k ≡ 2 → FirstBrokenLine s k
       unfolding document_lines
       no_price none e =
           let x = keyed_here s (bytes_of "winter=") 0 winter p is_winter in
           next_breaks s 1 k never e (bare_begins winter 0 1 p (line "winter=" (winter ∷ []) ∷ []) _ x.small (omega arith) refl refl x.here)
           (λ b. keyed_never s b.rest (bytes_of "price=") p b.document.price [] b.writable.price (after_winter is_winter 1 b) none)
 
-      pub no_count : {price q : ℕ} → keyed_at s p (bytes_of "price=") ≡ number.Is price q → keyed_at s q (bytes_of "events=") ≡ number.Broken → k ≡ 3
+      pub no_count : {price q : ℕ} → keyed_at s p (bytes_of "price=") ≡ Some (number price q) → keyed_at s q (bytes_of "events=") ≡ None → k ≡ 3
           → FirstBrokenLine s k
       unfolding document_lines
       no_count {price} {q} is_price none e =

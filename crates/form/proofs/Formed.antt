@@ -6,17 +6,18 @@ use mathlib.Core.List.{List, [], ◌∷◌}
 use mathlib.Core.Path.{◌≡◌, refl, sym, ap, ◌∙◌}
 use native.Mathlib.Omega.{arith}
 use lib.ListN.{length}
+use Rattle.std.specs.Prelude.{Ok}
 use Rattle.notices.specs.Notices.{notice_numbers}
 use Rattle.form.specs.Document.{EventLine, notices_in}
 use Rattle.form.specs.Form.{form_of, notices_said}
-use Rattle.form.specs.declared.whole.Form.TheVariants as form
 use Rattle.form.specs.declared.whole.Shape.{Shape}
+use Rattle.form.proofs.Parts.{same_Ok}
 use Rattle.form.proofs.Converse.{Held, form_written}
 use Rattle.form.proofs.RoundTrip.{Says, shape_of, text_read}
 
 pub record HasForm (s : List ℕ) : Type 0 where
   pub shape : Shape
-  pub is : form_of s ≡ form.Whole shape
+  pub is : form_of s ≡ Ok shape
 
 -- both directions
 pub held_of : (s : List ℕ) → HasForm s → Held s
@@ -26,13 +27,10 @@ pub form_of_held : (s : List ℕ) → Held s → HasForm s
 form_of_held s h = record { shape = shape_of h.document; is = ap form_of h.is ∙ (text_read h.document h.writable).0 }
 
 -- whatever values a text is the text of, those it says
-same_shape : (f g : Shape) → form.Whole f ≡ form.Whole g → f ≡ g
-same_shape f g e = cc
-
-pub says_held : (s : List ℕ) (f : Shape) → form_of s ≡ form.Whole f → (h : Held s) → Says s f h.document
+pub says_held : (s : List ℕ) (f : Shape) → form_of s ≡ Ok f → (h : Held s) → Says s f h.document
 says_held s f e h =
     let read = text_read h.document h.writable in
-    let g : f ≡ shape_of h.document = same_shape f (shape_of h.document) (sym e ∙ ap form_of h.is ∙ read.0) in
+    let g : f ≡ shape_of h.document = same_Ok f (shape_of h.document) (sym e ∙ ap form_of h.is ∙ read.0) in
     rw (g, h.is) read.1
 
 -- the list of a text that has the form has three numbers a notice
@@ -41,7 +39,7 @@ unfolding notices_in
 three_each [] = refl
 three_each (x ∷ xs) = omega (arith, three_each xs)
 
-pub notices_long : (s : List ℕ) (f : Shape) → form_of s ≡ form.Whole f → length (notices_said s) ≡ notice_numbers * f.events
+pub notices_long : (s : List ℕ) (f : Shape) → form_of s ≡ Ok f → length (notices_said s) ≡ notice_numbers * f.events
 notices_long s f e =
     let h = form_written s f e in
     let said = says_held s f e h in

@@ -4,7 +4,6 @@ pub mod BrokenTop
 pub mod Converse
 pub mod EventWalk
 pub mod FirstBrokenLine
-pub mod FormLaws
 pub mod Formed
 pub mod LineKinds
 pub mod LineLaws
@@ -13,6 +12,7 @@ pub mod Misplaced
 pub mod NoneLeftOut
 pub mod OneLine
 pub mod OneOutcome
+pub mod Parts
 pub mod PlaceLaws
 pub mod ReadWalk
 pub mod RoundTrip

@@ -6,18 +6,17 @@ use mathlib.Core.List.{List, [], ◌∷◌, ◌++◌, append_assoc, map}
 use mathlib.Core.Path.{◌≡◌, refl, ap, ◌∙◌}
 use native.Mathlib.Omega.{arith}
 use lib.ListN.{length, drop, length-append}
+use Rattle.std.specs.Prelude.{Some, Ok}
 use Rattle.laws.proofs.Every.{Every}
 use Rattle.numerals.proofs.Here.{Here, here_none, here_then, past}
 use Rattle.numerals.proofs.LineLaws.{lines_none, lines_more}
 use Rattle.numerals.proofs.Ways.{after_step_lem}
 use Rattle.numerals.specs.Lines.{Line, line_bytes, bytes_of_lines}
 use Rattle.numerals.specs.Rows.{Read}
-use Rattle.numerals.specs.declared.fields.Step.TheVariants as step
-use Rattle.form.specs.Lines.{lines_end, lines_said}
-use Rattle.form.specs.declared.lines.Lines.TheVariants as lines
+use Rattle.form.specs.Lines.{lines_end, lines_said, breaks}
 
 -- broken lines are not whole
-pub no_lines : (line q : ℕ) → lines.Broken line ≡ lines.Whole q → ⊥
+pub no_lines : (line q : ℕ) → breaks line ≡ Ok q → ⊥
 no_lines line q e = let z : ◌≡◌ {A = ℕ} 0 1 = cc in omega arith
 
 -- one line, and the lines after it
@@ -44,12 +43,12 @@ module _ (s : List ℕ) {X A : Type 0} (one : ℕ → Read A) (write : X → Lin
 
   pub record Kind : Type 0 where
     pub reads : (r : List ℕ) (at : ℕ) (x : X) → Fits x → drop at s ≡ line_bytes (write x) ++ r
-        → one at ≡ record { said = say x; end = step.To (at + length (line_bytes (write x))) }
-    pub written : (at q : ℕ) → (one at).end ≡ step.To q → LineWritten at q
+        → one at ≡ record { said = say x; end = Some (at + length (line_bytes (write x))) }
+    pub written : (at q : ℕ) → (one at).end ≡ Some q → LineWritten at q
 
   -- lines that are read back, and n lines that are written from a position on
   pub record LinesRead (xs : List X) (at line : ℕ) : Type 0 where
-    pub ends : lines_end one (length xs) at line ≡ lines.Whole (at + length (bytes_of_lines (map write xs)))
+    pub ends : lines_end one (length xs) at line ≡ Ok (at + length (bytes_of_lines (map write xs)))
     pub say_them : lines_said one (length xs) at ≡ map say xs
 
   pub record LinesWritten (n at q : ℕ) : Type 0 where
@@ -63,23 +62,23 @@ module _ {s : List ℕ} {X A : Type 0} {one : ℕ → Read A} {write : X → Lin
   pub lines_read : (r : List ℕ) (xs : List X) (at line : ℕ) → Every Fits xs → drop at s ≡ bytes_of_lines (map write xs) ++ r
       → LinesRead s one write say Fits xs at line
   unfolding lines_end lines_said
-  lines_read r [] at line fit e = record { ends = ap lines.Whole (none_long at); say_them = refl }
+  lines_read r [] at line fit e = record { ends = ap Ok (none_long at); say_them = refl }
   lines_read r (x ∷ xs) at line fit e =
       let next = at + length (line_bytes (write x)) in
       let here = kind.reads (bytes_of_lines (map write xs) ++ r) at x fit.0 (first_line s r at (write x) (map write xs) e) in
       let rest = lines_read r xs next (line + 1) fit.1 (lines_after s r at (write x) (map write xs) e) in
       record {
-        ends = rw here (rest.ends ∙ ap lines.Whole (lines_long at (write x) (map write xs)));
+        ends = rw here (rest.ends ∙ ap Ok (lines_long at (write x) (map write xs)));
         say_them = rw (here, rest.say_them);
       }
 
-  pub lines_written : (n at line q : ℕ) → lines_end one n at line ≡ lines.Whole q → LinesWritten s one write say Fits n at q
+  pub lines_written : (n at line q : ℕ) → lines_end one n at line ≡ Ok q → LinesWritten s one write say Fits n at q
   unfolding lines_end lines_said
   lines_written zero at line q e =
       let stays : q ≡ at = cc in
       record { values = []; counted = refl; fit = tt; say_them = refl; here = rw (stays, lines_none) (here_none s at) }
   lines_written (suc n) at line q e =
-      after_step_lem (lines.Broken line) (no_lines line q) (one at).end _ e
+      after_step_lem (breaks line) (no_lines line q) (one at).end _ e
       (λ p is on.
       let w = kind.written at p is in
       let r = lines_written n p (line + 1) q on in

@@ -1,45 +1,44 @@
 -- Laws of n lines of a kind, by the ways out and the turn of a loop over them.
 -- Assumes nothing.
-use Prim.Native.Nat.{ℕ, suc, ◌+◌, ◌-◌, ◌<◌}
+use Prim.Native.Nat.{ℕ, suc, ◌+◌, ◌-◌, ◌≤◌, ◌<◌}
 use mathlib.Core.List.{[], ◌∷◌}
 use mathlib.Core.Path.{◌≡◌, ap, ◌∙◌}
 use native.Mathlib.Omega.{arith}
+use Rattle.std.specs.Prelude.{Some, None, Ok}
 use Rattle.numerals.specs.Fields.{after_step}
 use Rattle.numerals.specs.Rows.{Read}
-use Rattle.numerals.specs.declared.fields.Step.TheVariants as step
-use Rattle.form.specs.Lines.{lines_end, lines_said}
-use Rattle.form.specs.declared.lines.Lines.TheVariants as lines
+use Rattle.form.specs.Lines.{lines_end, lines_said, breaks}
 
--- n lines of a kind
-module _ {A : Type 0} (one : ℕ → Read A) (n at : ℕ) where
-  pub lines_done : (line : ℕ) → n ≡ 0 → lines_end one n at line ≡ lines.Whole at
+-- n lines of a kind, of which k are done and the next stands at a position
+module _ {A : Type 0} (one : ℕ → Read A) (n k at : ℕ) where
+  pub lines_done : (line : ℕ) → n ≤ k → lines_end one (n - k) at line ≡ Ok at
   unfolding lines_end
-  lines_done line h = rw h
+  lines_done line h = let z : n - k ≡ 0 = omega arith in rw z
 
-  pub said_done : n ≡ 0 → lines_said one n at ≡ []
+  pub said_done : n ≤ k → lines_said one (n - k) at ≡ []
   unfolding lines_said
-  said_done h = rw h
+  said_done h = let z : n - k ≡ 0 = omega arith in rw z
 
-  module _ (h : 0 < n) where
-    above_zero : n ≡ suc (n - 1)
-    above_zero = omega arith
+  module _ (h : k < n) where
+    one_more : n - k ≡ suc (n - (k + 1))
+    one_more = omega arith
 
-    end_turn : (line : ℕ) → lines_end one n at line ≡ after_step (lines.Broken line) (one at).end (λ p. lines_end one (n - 1) p (line + 1))
+    end_turn : (line : ℕ) → lines_end one (n - k) at line ≡ after_step (breaks line) (one at).end (λ p. lines_end one (n - (k + 1)) p (line + 1))
     unfolding lines_end
-    end_turn line = ap (λ (k : ℕ). lines_end one k at line) above_zero
+    end_turn line = ap (λ (m : ℕ). lines_end one m at line) one_more
 
-    said_turn : lines_said one n at ≡ (one at).said ∷ after_step [] (one at).end (λ p. lines_said one (n - 1) p)
+    said_turn : lines_said one (n - k) at ≡ (one at).said ∷ after_step [] (one at).end (λ p. lines_said one (n - (k + 1)) p)
     unfolding lines_said
-    said_turn = ap (λ (k : ℕ). lines_said one k at) above_zero
+    said_turn = ap (λ (m : ℕ). lines_said one m at) one_more
 
-    pub lines_bad : (line : ℕ) → (one at).end ≡ step.Broken → lines_end one n at line ≡ lines.Broken line
+    pub lines_bad : (line : ℕ) → (one at).end ≡ None → lines_end one (n - k) at line ≡ breaks line
     lines_bad line e = end_turn line ∙ rw e
 
-    pub said_bad : (one at).end ≡ step.Broken → lines_said one n at ≡ (one at).said ∷ []
+    pub said_bad : (one at).end ≡ None → lines_said one (n - k) at ≡ (one at).said ∷ []
     said_bad e = said_turn ∙ rw e
 
-    pub lines_more : (line : ℕ) {p : ℕ} → (one at).end ≡ step.To p → lines_end one n at line ≡ lines_end one (n - 1) p (line + 1)
-    lines_more line e = end_turn line ∙ rw e
+    pub lines_more : (first : ℕ) {p : ℕ} → (one at).end ≡ Some p → lines_end one (n - k) at (first + k) ≡ lines_end one (n - (k + 1)) p (first + (k + 1))
+    lines_more first e = let z : first + k + 1 ≡ first + (k + 1) = omega arith in end_turn (first + k) ∙ rw (e, z)
 
-    pub said_more : {p : ℕ} → (one at).end ≡ step.To p → lines_said one n at ≡ (one at).said ∷ lines_said one (n - 1) p
+    pub said_more : {p : ℕ} → (one at).end ≡ Some p → lines_said one (n - k) at ≡ (one at).said ∷ lines_said one (n - (k + 1)) p
     said_more e = said_turn ∙ rw e

@@ -8,20 +8,18 @@ use mathlib.Core.Path.{◌≡◌, refl, sym, ap, ◌∙◌}
 use native.Mathlib.Omega.{arith}
 use lib.ListN.{length, take, drop}
 use lib.Seq.{length-take-le}
+use Rattle.form.proofs.Parts.{same_line}
+use Rattle.std.specs.Prelude.{Option, Some, None, Ok}
 use Rattle.laws.proofs.Every.{Every, front}
 use Rattle.numerals.proofs.Here.{Here, here_then, past}
 use Rattle.numerals.proofs.LineLaws.{key_line, lines_one, lines_append}
 use Rattle.numerals.proofs.ReadFields.{keyed_reads}
-use Rattle.numerals.proofs.Ways.{no_number}
+use Rattle.numerals.proofs.Ways.{no_number, number_parts}
 use Rattle.numerals.proofs.WrittenFields.{keyed_written}
-use Rattle.numerals.specs.Fields.{Small, after_step, keyed_at}
+use Rattle.numerals.specs.Fields.{Small, after_step, keyed_at, number}
 use Rattle.numerals.specs.Lines.{Line, line_bytes, bytes_of_lines}
 use Rattle.numerals.specs.Rows.{Read}
-use Rattle.numerals.specs.declared.fields.Number.TheVariants as number
-use Rattle.numerals.specs.declared.fields.Step.{Step}
-use Rattle.numerals.specs.declared.fields.Step.TheVariants as step
-use Rattle.form.specs.Lines.{lines_end}
-use Rattle.form.specs.declared.lines.Lines.TheVariants as lines
+use Rattle.form.specs.Lines.{lines_end, breaks}
 use Rattle.form.proofs.LineKinds.{Kind, first_line, lines_after, lines_read, no_lines}
 
 -- some lines stand at a position, before a rest
@@ -34,16 +32,16 @@ pub record KeyedFront (s : List ℕ) (v n q : ℕ) (xs : List Line) (r : List �
   pub after : Stands s q xs r
 
 module _ (s r : List ℕ) (key : List ℕ) (at n : ℕ) (xs : List Line) (small : Small n) (e : Stands s at (key_line key n ∷ xs) r) where
-  keyed_read : keyed_at s at key ≡ number.Is n (at + length (line_bytes (key_line key n)))
+  keyed_read : keyed_at s at key ≡ Some (number n (at + length (line_bytes (key_line key n))))
   keyed_read = keyed_reads s key (bytes_of_lines xs ++ r) at n small (first_line s r at (key_line key n) xs e)
 
-  pub keyed_front : (v q : ℕ) → keyed_at s at key ≡ number.Is v q → KeyedFront s v n q xs r
+  pub keyed_front : (v q : ℕ) → keyed_at s at key ≡ Some (number v q) → KeyedFront s v n q xs r
   keyed_front v q is =
       let read = keyed_read in
-      let place : at + length (line_bytes (key_line key n)) ≡ q = cc in
-      record { same = cc; after = rw place at (lines_after s r at (key_line key n) xs e) }
+      let same = number_parts (sym read ∙ is) in
+      record { same = sym same.0; after = rw same.1 at (lines_after s r at (key_line key n) xs e) }
 
-  pub keyed_never : keyed_at s at key ≡ number.Broken → ⊥
+  pub keyed_never : keyed_at s at key ≡ None → ⊥
   keyed_never is = no_number _ _ (sym is ∙ keyed_read)
 
 map_front : {A : Type 0} (f : A → Line) (i : ℕ) (xs : List A) → take i (map f xs) ≡ map f (take i xs)
@@ -54,7 +52,7 @@ map_front f (suc i) (x ∷ xs) = ap (λ (l : List Line). f x ∷ l) (map_front f
 module _ {s : List ℕ} {X A : Type 0} {one : ℕ → Read A} {write : X → Line} {say : X → A} {Fits : X → Type 0} (kind : Kind s one write say Fits)
     (r : List ℕ) (xs : List X) (at line : ℕ) (fit : Every Fits xs) where
   -- after all lines of the kind stands what follows them
-  pub lines_front : (ys : List Line) (q : ℕ) → lines_end one (length xs) at line ≡ lines.Whole q → Stands s at (map write xs ++ ys) r → Stands s q ys r
+  pub lines_front : (ys : List Line) (q : ℕ) → lines_end one (length xs) at line ≡ Ok q → Stands s at (map write xs ++ ys) r → Stands s q ys r
   lines_front ys q whole e =
       let mine = bytes_of_lines (map write xs) in
       let rest = bytes_of_lines ys ++ r in
@@ -66,7 +64,7 @@ module _ {s : List ℕ} {X A : Type 0} {one : ℕ → Read A} {write : X → Lin
       rw place at (past s mine rest at there)
 
   -- and the first i of them do not stand there where one of these is broken
-  pub lines_never : (i k : ℕ) → i ≤ length xs → lines_end one i at line ≡ lines.Broken k → Stands s at (take i (map write xs)) r → ⊥
+  pub lines_never : (i k : ℕ) → i ≤ length xs → lines_end one i at line ≡ breaks k → Stands s at (take i (map write xs)) r → ⊥
   lines_never i k few broken e =
       let all = (lines_read kind r (take i xs) at line (front Fits i xs fit) (rw map_front at e)).ends in
       no_lines k _ (sym broken ∙ (rw (length-take-le i xs few) at all))
@@ -78,20 +76,19 @@ module _ {A : Type 0} (one : ℕ → Read A) where
     pub end : ℕ
     pub fewer : whole_lines < n
     pub named : k ≡ line + whole_lines
-    pub whole : lines_end one whole_lines at line ≡ lines.Whole end
-    pub broken : lines_end one (suc whole_lines) at line ≡ lines.Broken k
+    pub whole : lines_end one whole_lines at line ≡ Ok end
+    pub broken : lines_end one (suc whole_lines) at line ≡ breaks k
 
-  pub lines_stop : (n at line k : ℕ) → lines_end one n at line ≡ lines.Broken k → Stops n at line k
+  pub lines_stop : (n at line k : ℕ) → lines_end one n at line ≡ breaks k → Stops n at line k
   unfolding lines_end
   lines_stop zero at line k e = absurd (no_lines k at (sym e))
   lines_stop (suc n) at line k e = by (one at).end refl e (λ p. lines_stop n p (line + 1) k)
     where
-      by : (x : Step) → (one at).end ≡ x → after_step (lines.Broken line) x (λ p. lines_end one n p (line + 1)) ≡ lines.Broken k
-          → ((p : ℕ) → lines_end one n p (line + 1) ≡ lines.Broken k → Stops n p (line + 1) k) → Stops (suc n) at line k
-      by step.Broken i e on =
-          let here : k ≡ line = cc in
-          record { whole_lines = 0; end = at; fewer = omega arith; named = omega arith; whole = refl; broken = rw i e }
-      by (step.To p) i e on =
+      by : (x : Option ℕ) → (one at).end ≡ x → after_step (breaks line) x (λ p. lines_end one n p (line + 1)) ≡ breaks k
+          → ((p : ℕ) → lines_end one n p (line + 1) ≡ breaks k → Stops n p (line + 1) k) → Stops (suc n) at line k
+      by None i e on =
+          record { whole_lines = 0; end = at; fewer = omega arith; named = omega (arith, same_line line k e); whole = refl; broken = rw i e }
+      by (Some p) i e on =
           let r = on p e in
           record {
             whole_lines = suc r.whole_lines;
@@ -114,7 +111,7 @@ module _ (s : List ℕ) where
     pub here : LinesHere at (key_line key n ∷ []) q
     pub small : Small n
 
-  pub keyed_here : (key : List ℕ) (at n q : ℕ) → keyed_at s at key ≡ number.Is n q → KeyedHere key at n q
+  pub keyed_here : (key : List ℕ) (at n q : ℕ) → keyed_at s at key ≡ Some (number n q) → KeyedHere key at n q
   keyed_here key at n q e =
       let w = keyed_written s at key n q e in
       record { here = rw lines_one w.here; small = w.small }

@@ -5,9 +5,10 @@ use Prim.Native.Nat.{ℕ, zero, suc, ◌+◌, ◌<◌}
 use mathlib.Core.Bool.{Bool, true, false, cond}
 use mathlib.Core.List.{List, [], ◌∷◌}
 use mathlib.Core.Logic.{◌⊎◌, inl, inr}
-use mathlib.Core.Path.{◌≡◌, refl, ◌∙◌}
+use mathlib.Core.Path.{◌≡◌, refl, ap, ◌∙◌}
 use native.Mathlib.Omega.{arith}
 use lib.ListN.{length, get_or}
+use Rattle.std.specs.Prelude.{Option, Some, None}
 use Rattle.form.specs.Document.{ReadLine}
 use Rattle.form.specs.Places.{end_of, misplaced, misplaced_in}
 use Rattle.form.proofs.Begins.{any_read}
@@ -27,17 +28,17 @@ pub record FirstMisplaced (days end : ℕ) (xs : List ReadLine) (j : ℕ) : Type
   pub here : misplaced_at days end xs j ≡ true
   pub before : (i : ℕ) → i < j → misplaced_at days end xs i ≡ false
 
--- none is, and the line told is 0; or it is the first one's, where the lines are counted from k on
-pub record NoneMisplaced (days end : ℕ) (xs : List ReadLine) (line : ℕ) : Type 0 where
-  pub line_none : line ≡ 0
+-- none is, and no line is told; or it is the first one's, where the lines are counted from k on
+pub record NoneMisplaced (days end : ℕ) (xs : List ReadLine) (line : Option ℕ) : Type 0 where
+  pub line_none : line ≡ None
   pub each : (i : ℕ) → i < length xs → misplaced_at days end xs i ≡ false
 
-pub record OneMisplaced (days end : ℕ) (xs : List ReadLine) (k line : ℕ) : Type 0 where
+pub record OneMisplaced (days end : ℕ) (xs : List ReadLine) (k : ℕ) (line : Option ℕ) : Type 0 where
   pub index : ℕ
   pub first : FirstMisplaced days end xs index
-  pub line_is : line ≡ k + index
+  pub line_is : line ≡ Some (k + index)
 
-abbrev pub MisplacedTells : ℕ → ℕ → List ReadLine → ℕ → ℕ → Type 0
+abbrev pub MisplacedTells : ℕ → ℕ → List ReadLine → ℕ → Option ℕ → Type 0
 MisplacedTells days end xs k line = NoneMisplaced days end xs line ⊎ OneMisplaced days end xs k line
 
 module _ (days : ℕ) where
@@ -65,9 +66,11 @@ module _ (days : ℕ) where
   misplaced_tells (x ∷ xs) k end = by (misplaced days end x) refl (misplaced_tells xs (k + 1) (end_of x))
     where
       by : (b : Bool) → misplaced days end x ≡ b → MisplacedTells days (end_of x) xs (k + 1) (misplaced_in days xs (k + 1) (end_of x))
-          → MisplacedTells days end (x ∷ xs) k (cond b k (misplaced_in days xs (k + 1) (end_of x)))
+          → MisplacedTells days end (x ∷ xs) k (cond b (Some k) (misplaced_in days xs (k + 1) (end_of x)))
       by true e later =
-          inr (record { index = 0; first = record { among = omega arith; here = e; before = λ i h. absurd (omega arith) }; line_is = omega arith })
+          let z : k ≡ k + 0 = omega arith in
+          inr (record { index = 0; first = record { among = omega arith; here = e; before = λ i h. absurd (omega arith) }; line_is = ap Some z })
       by false e (inl none) = inl (record { line_none = none.line_none; each = none_behind end x xs e none.each })
       by false e (inr one) =
-          inr (record { index = suc one.index; first = first_behind end x xs e one.index one.first; line_is = omega (arith, one.line_is) })
+          let z : k + 1 + one.index ≡ k + suc one.index = omega arith in
+          inr (record { index = suc one.index; first = first_behind end x xs e one.index one.first; line_is = one.line_is ∙ ap Some z })

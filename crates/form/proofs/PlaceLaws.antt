@@ -8,11 +8,11 @@ use mathlib.Core.Path.{◌≡◌, refl, sym, ap, ◌∙◌}
 use native.Mathlib.Omega.{arith}
 use lib.ListN.{length, take, set, length-take}
 use lib.Seq.{sets, length-sets, set_out, take-set-le, take-set-lt}
+use Rattle.std.specs.Option.{unwrap_or}
+use Rattle.std.specs.Prelude.{Option, Some, None}
 use Rattle.dates.proofs.Promise.{no_winter_lem, is_winter, winter_count}
 use Rattle.dates.specs.Answers.{days_paper, winter_days}
 use Rattle.dates.specs.Winters.{no_winter, days}
-use Rattle.dates.specs.declared.answers.Days.{Days}
-use Rattle.dates.specs.declared.answers.Days.TheVariants.{Are, NoWinter}
 use Rattle.laws.proofs.Order.{either_order}
 use Rattle.form.specs.Document.{ReadLine}
 use Rattle.form.specs.Places.{book_days, start_of, put_read, book_in}
@@ -23,12 +23,16 @@ unfolding book_days
 book_days_lem w e = rw e
 
 -- and by what the calendar answers
-pub wrong_winter_lem : (w : ℕ) (r : Days) → r ≡ NoWinter → days_paper r ≡ winter_days w → 0 ≡ book_days w
+pub wrong_winter_lem : (w : ℕ) (r : Option ℕ) → r ≡ None → days_paper r ≡ winter_days w → 0 ≡ book_days w
 unfolding book_days
 wrong_winter_lem w r q e = rw (no_winter_lem w r q e)
 
-pub right_winter : (w n : ℕ) (r : Days) → r ≡ Are n → days_paper r ≡ winter_days w → n ≡ book_days w
+pub right_winter : (w n : ℕ) (r : Option ℕ) → r ≡ Some n → days_paper r ≡ winter_days w → n ≡ book_days w
 right_winter w n r q e = winter_count w n r q e ∙ sym (book_days_lem w (is_winter w n r q e))
+
+pub days_or_none : (w : ℕ) (r : Option ℕ) → days_paper r ≡ winter_days w → unwrap_or r 0 ≡ book_days w
+days_or_none w None q = wrong_winter_lem w None refl q
+days_or_none w (Some n) q = right_winter w n (Some n) refl q
 
 -- the front of a book is filled as a book so long: what lies past its end is left out there
 front_put : (n : ℕ) (vs book : List ℕ) (k : ℕ) → take n (sets book k vs) ≡ sets (take n book) k vs

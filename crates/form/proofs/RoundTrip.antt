@@ -6,17 +6,15 @@ use mathlib.Core.List.{List, [], ◌∷◌, ◌++◌, map, map-id, flatten}
 use mathlib.Core.Path.{◌≡◌, refl, ap, ◌∙◌}
 use lib.ListN.{length}
 use borrow.Author.Tests.{eq-eqb}
+use Rattle.std.specs.Prelude.{Some, Ok}
 use Rattle.numerals.proofs.ReadFields.{keyed_reads}
-use Rattle.numerals.specs.Fields.{keyed_at}
+use Rattle.numerals.specs.Fields.{keyed_at, number}
 use Rattle.numerals.specs.Words.{bytes_of}
-use Rattle.numerals.specs.declared.fields.Number.TheVariants as number
 use Rattle.form.specs.Document.{EventLine, Document, event_numbers, event_line, read_line, text_of, SmallEvent, SmallRead, Writable, notices_in}
-use Rattle.form.specs.Form.{top_of, rest_of, form_of, notices_said, reads_from, reads_said}
+use Rattle.form.specs.Form.{top_of, rest_of, form_of, notices_said, reads_from, reads_said, top}
 use Rattle.form.specs.Lines.{event_line_at, read_line_at, lines_said}
 use Rattle.form.specs.Places.{book_days, misplaced_line_in}
-use Rattle.form.specs.declared.whole.Form.TheVariants as form
 use Rattle.form.specs.declared.whole.Shape.{Shape}
-use Rattle.form.specs.declared.whole.Top.TheVariants as top
 use Rattle.form.proofs.LineKinds.{LinesRead, lines_read}
 use Rattle.form.proofs.TextLines.{events, reads}
 use Rattle.form.proofs.TextParts.{reads_part, from_counted, from_events, from_count, from_price, parts, price_at, count_at, events_at, counted_at, reads_at}
@@ -47,7 +45,7 @@ notices_flat [] = refl
 notices_flat (x ∷ xs) = ap (λ (l : List ℕ). event_numbers x ++ l) (notices_flat xs)
 
 module _ (d : Document) (ok : Writable d) where
-  top_read : top_of (text_of d) ≡ top.Is d.winter d.price (length d.events) (events_at d)
+  top_read : top_of (text_of d) ≡ Ok (top d.winter d.price (length d.events) (events_at d))
   unfolding top_of
   top_read = rw (
     keyed_reads (text_of d) (bytes_of "winter=") (from_price d) 0 d.winter ok.winter (parts d),
@@ -58,7 +56,7 @@ module _ (d : Document) (ok : Writable d) where
   events_read : LinesRead (text_of d) (event_line_at (text_of d)) event_line event_numbers SmallEvent d.events (events_at d) 4
   events_read = lines_read (events (text_of d)) (from_counted d) d.events (events_at d) 4 ok.events (at_events d)
 
-  counted_read : keyed_at (text_of d) (counted_at d) (bytes_of "reads=") ≡ number.Is (length d.reads) (reads_at d)
+  counted_read : keyed_at (text_of d) (counted_at d) (bytes_of "reads=") ≡ Some (number (length d.reads) (reads_at d))
   counted_read = keyed_reads (text_of d) (bytes_of "reads=") (reads_part d) (counted_at d) (length d.reads) ok.counted (at_counted d)
 
   reads_read : LinesRead (text_of d) (read_line_at (text_of d)) read_line (λ x. x) SmallRead d.reads (reads_at d) (length d.events + 4 + 1)
@@ -67,7 +65,7 @@ module _ (d : Document) (ok : Writable d) where
   reads_said_lem : lines_said (read_line_at (text_of d)) (length d.reads) (reads_at d) ≡ d.reads
   reads_said_lem = reads_read.say_them ∙ map-id d.reads
 
-  form_read : form_of (text_of d) ≡ form.Whole (shape_of d)
+  form_read : form_of (text_of d) ≡ Ok (shape_of d)
   unfolding form_of rest_of
   form_read = rw (
     top_read,
@@ -89,5 +87,5 @@ module _ (d : Document) (ok : Writable d) where
     read_lines_lem = rw (top_read, events_read.ends, counted_read) reads_said_lem;
   }
 
-  pub text_read : (form_of (text_of d) ≡ form.Whole (shape_of d)) × Says (text_of d) (shape_of d) d
+  pub text_read : (form_of (text_of d) ≡ Ok (shape_of d)) × Says (text_of d) (shape_of d) d
   text_read = (form_read, says)

@@ -8,6 +8,7 @@ use mathlib.Core.Path.{◌≡◌, refl, sym, ap, ◌∙◌}
 use native.Mathlib.Omega.{arith}
 use lib.ListN.{length, take, drop, get_or, length-append}
 use lib.Seq.{length-take-le, split_at, take_at}
+use Rattle.form.specs.Lines.{breaks}
 use Rattle.laws.proofs.Every.{Every, left, right, joined, front, all, map_of}
 use Rattle.numerals.proofs.LineEnds.{ends, ends_append, EndsOnce, numbers_end_once, lines_ends, part_none}
 use Rattle.numerals.proofs.LineLaws.{key_line, lines_more, lines_append}
@@ -17,7 +18,6 @@ use Rattle.numerals.specs.Lines.{Line, line_bytes, bytes_of_lines}
 use Rattle.numerals.specs.Words.{bytes_of}
 use Rattle.form.specs.Document.{EventLine, ReadLine, Document, event_numbers, event_line, read_line, document_lines, text_of, SmallEvent, Writable}
 use Rattle.form.specs.Form.{form_of}
-use Rattle.form.specs.declared.whole.Form.TheVariants as form
 use Rattle.form.proofs.Begins.{body_lines, document_long, Begins}
 use Rattle.form.proofs.Converse.{Held}
 use Rattle.form.proofs.FirstBrokenLine.{first_broken_line}
@@ -138,7 +138,7 @@ module _ (d : Document) (ok : Writable d) (xs : List Line) (x : Line) (ys : List
         length-append xs (x ∷ ys),
       )
 
-  refused_there : (j : ℕ) → length xs ≡ j → form_of s ≡ form.Broken (j + 1)
+  refused_there : (j : ℕ) → length xs ≡ j → form_of s ≡ breaks (j + 1)
   refused_there j long =
       let before : j + 1 - 1 ≡ length xs = omega arith in
       let next : j + 1 ≡ suc (length xs) = omega arith in
@@ -148,7 +148,7 @@ module _ (d : Document) (ok : Writable d) (xs : List Line) (x : Line) (ys : List
 -- j whole lines of some values, and a part of the next, or nothing of it
 pub stops_early : (d : Document) (j : ℕ) (any : Line) (part rest : List ℕ) → Writable d → j < length (document_lines d)
     → line_bytes (get_or (document_lines d) j any) ≡ part ++ rest → 1 ≤ length rest
-    → form_of (bytes_of_lines (take j (document_lines d)) ++ part) ≡ form.Broken (j + 1)
+    → form_of (bytes_of_lines (take j (document_lines d)) ++ part) ≡ breaks (j + 1)
 stops_early d j any part rest ok fewer starts missing =
     let xs = document_lines d in
     refused_there d ok (take j xs) (get_or xs j any) (drop (suc j) xs) (split_at xs j any fewer) part rest starts missing _ refl j

@@ -6,6 +6,7 @@ use mathlib.Core.List.{List, [], ◌∷◌, ◌++◌, append_assoc}
 use mathlib.Core.Path.{◌≡◌, refl, ap, ◌∙◌}
 use native.Mathlib.Omega.{arith}
 use lib.ListN.{length, drop, length-append}
+use Rattle.std.specs.Prelude.{Some, None}
 use Rattle.laws.proofs.Every.{Every}
 use Rattle.book.specs.Length.{day_hours}
 use Rattle.notices.specs.Notices.{notice_numbers}
@@ -20,16 +21,16 @@ use Rattle.numerals.specs.Fields.{Small, field_at, word_at}
 use Rattle.numerals.specs.Lines.{line_bytes}
 use Rattle.numerals.specs.Rows.{row_at}
 use Rattle.numerals.specs.Words.{bytes_of, comma}
-use Rattle.numerals.specs.declared.fields.Step.TheVariants as step
+use Rattle.form.proofs.Parts.{head_parts}
+use Rattle.std.proofs.lemmas.Option.{none-some}
 use Rattle.form.specs.Document.{EventLine, ReadLine, event_numbers, event_line, read_line, SmallEvent, SmallRead}
-use Rattle.form.specs.Lines.{event_line_at, head_at, read_line_at}
-use Rattle.form.specs.declared.lines.Head.TheVariants as head
+use Rattle.form.specs.Lines.{event_line_at, head_at, read_line_at, head}
 use Rattle.form.proofs.LineKinds.{Kind, LineWritten}
 use Rattle.form.proofs.OneLine.{event_read, read_read}
 
 -- an event line: its key, and three numbers
 event_reads : (s r : List ℕ) (at : ℕ) (x : EventLine) → SmallEvent x → drop at s ≡ line_bytes (event_line x) ++ r
-    → event_line_at s at ≡ record { said = event_numbers x; end = step.To (at + length (line_bytes (event_line x))) }
+    → event_line_at s at ≡ record { said = event_numbers x; end = Some (at + length (line_bytes (event_line x))) }
 unfolding event_line_at
 event_reads s r at x small e =
     let key = bytes_of "event=" in
@@ -63,7 +64,7 @@ three (a ∷ (b ∷ (c ∷ []))) small e = record {
 }
 three (a ∷ (b ∷ (c ∷ (d ∷ ns)))) small e = absurd (omega arith)
 
-event_written : (s : List ℕ) (at q : ℕ) → (event_line_at s at).end ≡ step.To q → LineWritten s (event_line_at s) event_line event_numbers SmallEvent at q
+event_written : (s : List ℕ) (at q : ℕ) → (event_line_at s at).end ≡ Some q → LineWritten s (event_line_at s) event_line event_numbers SmallEvent at q
 event_written s at q e =
     let read = event_read s at q e in
     let row = row_written notice_numbers s read.from q read.ends in
@@ -90,7 +91,7 @@ read_bytes day hour [] some = absurd (omega arith)
 read_bytes day hour (v ∷ vs) some = simp (line_is, fields_more, append_assoc)
 
 read_reads : (s r : List ℕ) (at : ℕ) (x : ReadLine) → SmallRead x → drop at s ≡ line_bytes (read_line x) ++ r
-    → read_line_at s at ≡ record { said = x; end = step.To (at + length (line_bytes (read_line x))) }
+    → read_line_at s at ≡ record { said = x; end = Some (at + length (line_bytes (read_line x))) }
 unfolding read_line_at head_at
 read_reads s r at x small e =
     let key = bytes_of "read=" in
@@ -123,26 +124,26 @@ record HeadWritten (s : List ℕ) (at day hour q : ℕ) : Type 0 where
   small_day : Small day
   small_hour : Small hour
 
-no_head : (day hour q : ℕ) → head.Broken ≡ head.Start day hour q → ⊥
-no_head day hour q e = let z : ◌≡◌ {A = ℕ} 0 1 = cc in omega arith
+no_head : (day hour q : ℕ) → None ≡ Some (head day hour q) → ⊥
+no_head day hour q e = none-some (head day hour q) e
 
-head_written : (s : List ℕ) (at day hour q : ℕ) → head_at s at ≡ head.Start day hour q → HeadWritten s at day hour q
+head_written : (s : List ℕ) (at day hour q : ℕ) → head_at s at ≡ Some (head day hour q) → HeadWritten s at day hour q
 unfolding head_at
 head_written s at day hour q e =
     let never = no_head day hour q in
-    after_step_lem head.Broken never (word_at s at (bytes_of "read=")) _ e
-    (λ p key e₁. after_field_lem head.Broken never comma (field_at s p) _ e₁
-    (λ d p₁ f₁ e₂. after_field_lem head.Broken never comma (field_at s p₁) _ e₂
+    after_step_lem None never (word_at s at (bytes_of "read=")) _ e
+    (λ p key e₁. after_field_lem None never comma (field_at s p) _ e₁
+    (λ d p₁ f₁ e₂. after_field_lem None never comma (field_at s p₁) _ e₂
     (λ h p₂ f₂ same.
-    let first = field_written s p day comma p₁ (cc (f₁, same)) in
-    let second = field_written s p₁ hour comma q (cc (f₂, same)) in
+    let first = field_written s p day comma p₁ (f₁ ∙ rw (head_parts same).0) in
+    let second = field_written s p₁ hour comma q (f₂ ∙ rw ((head_parts same).1, (head_parts same).2)) in
     record {
       here = here_then (word_written s at (bytes_of "read=") p key) (here_then first.here second.here);
       small_day = first.small;
       small_hour = second.small;
     })))
 
-read_written : (s : List ℕ) (at q : ℕ) → (read_line_at s at).end ≡ step.To q → LineWritten s (read_line_at s) read_line (λ x. x) SmallRead at q
+read_written : (s : List ℕ) (at q : ℕ) → (read_line_at s at).end ≡ Some q → LineWritten s (read_line_at s) read_line (λ x. x) SmallRead at q
 read_written s at q e =
     let read = read_read s at q e in
     let start = head_written s at read.day read.hour read.from read.start in

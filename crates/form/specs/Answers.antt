@@ -1,17 +1,18 @@
 -- What the question for a text's form answers on paper, and the number and values of each case: what a text that has the form says beside its
--- notices and readings, or 30 at the first line that breaks it.
+-- notices and readings, with 0 where no line is misplaced, or 30 at the first line that breaks it.
 -- Assumes nothing.
-use Rattle.std.specs.Prelude.{ℕ, List, [], ◌∷◌}
+use Rattle.std.specs.Prelude.{ℕ, List, [], ◌∷◌, Result, Ok, Err}
+use Rattle.std.specs.Option.{unwrap_or}
 use Rattle.laws.specs.Answer.{Answer, given}
 use Rattle.laws.specs.Table.{refusal_at}
 use Rattle.form.specs.Form.{form_of}
-use Rattle.form.specs.declared.whole.Form.TheVariants as form
-use Rattle.form.specs.declared.whole.Form.{Form}
+use Rattle.form.specs.declared.lines.BrokenLine.{BrokenLine}
+use Rattle.form.specs.declared.whole.Shape.{Shape}
 
 -- the paper's number and values for each case (rule 4.17)
-abbrev pub form_paper : Form → Answer
-form_paper (form.Whole f) = given (f.winter ∷ f.price ∷ f.events ∷ f.misplaced ∷ [])
-form_paper (form.Broken line) = refusal_at 30 line
+abbrev pub form_paper : Result Shape BrokenLine → Answer
+form_paper (Ok f) = given (f.winter ∷ f.price ∷ f.events ∷ unwrap_or f.misplaced 0 ∷ [])
+form_paper (Err broken) = refusal_at 30 broken.line
 
 -- what the call answers
 unfoldable pub form_answer : List ℕ → Answer

@@ -1,47 +1,50 @@
 -- The form of a whole text, line by line, and what a text says up to what breaks the form: rules 8.3, 8.6 and 8.7.
 -- Assumes nothing.
-use Rattle.std.specs.Prelude.{ℕ, ◌+◌, cond, eqb, length}
+use Rattle.std.specs.Prelude.{ℕ, ◌+◌, cond, eqb, length, Result, Ok, Err}
 use mathlib.Core.List.{List, [], flatten}
 use Rattle.numerals.specs.Fields.{after_number, keyed_at}
 use Rattle.numerals.specs.Words.{bytes_of}
 use Rattle.form.specs.Document.{ReadLine}
-use Rattle.form.specs.Lines.{after_lines, event_line_at, read_line_at, lines_end, lines_said}
+use Rattle.form.specs.Lines.{after_lines, breaks, event_line_at, read_line_at, lines_end, lines_said}
 use Rattle.form.specs.Places.{book_days, misplaced_line}
-use Rattle.form.specs.declared.whole.Form.{Form}
-use Rattle.form.specs.declared.whole.Form.TheVariants as form
+use Rattle.form.specs.declared.lines.BrokenLine.{BrokenLine}
+use Rattle.form.specs.declared.whole.Shape.{Shape}
 use Rattle.form.specs.declared.whole.Top.{Top}
-use Rattle.form.specs.declared.whole.Top.TheVariants as top
+
+-- winter, price, the number of event lines and the position after the three lines that say them
+abbrev pub top : ℕ → ℕ → ℕ → ℕ → Top
+top winter price events p = record { winter = winter; price = price; events = events; next = p }
 
 -- the first three lines (rule 8.3)
-unfoldable pub top_of : List ℕ → Top
+unfoldable pub top_of : List ℕ → Result Top BrokenLine
 top_of s =
-    after_number (top.Broken 1) (keyed_at s 0 (bytes_of "winter="))
-    (λ winter p. after_number (top.Broken 2) (keyed_at s p (bytes_of "price="))
-    (λ price q. after_number (top.Broken 3) (keyed_at s q (bytes_of "events=")) (λ events r. top.Is winter price events r)))
+    after_number (breaks 1) (keyed_at s 0 (bytes_of "winter="))
+    (λ winter p. after_number (breaks 2) (keyed_at s p (bytes_of "price="))
+    (λ price q. after_number (breaks 3) (keyed_at s q (bytes_of "events=")) (λ events r. Ok (top winter price events r))))
 
-abbrev pub after_top : {A : Type 0} → (ℕ → A) → Top → (ℕ → ℕ → ℕ → ℕ → A) → A
-after_top broken (top.Is winter price events p) go = go winter price events p
-after_top broken (top.Broken line) go = broken line
+abbrev pub after_top : {A : Type 0} → (ℕ → A) → Result Top BrokenLine → (ℕ → ℕ → ℕ → ℕ → A) → A
+after_top broken (Ok t) go = go t.winter t.price t.events t.next
+after_top broken (Err b) go = broken b.line
 
 -- from the line `reads=` on, which stands at a position; the line after the last is broken by what follows (rule 8.6)
-unfoldable pub rest_of : List ℕ → ℕ → ℕ → ℕ → ℕ → Form
+unfoldable pub rest_of : List ℕ → ℕ → ℕ → ℕ → ℕ → Result Shape BrokenLine
 rest_of s winter price events at =
-    after_number (form.Broken (events + 4)) (keyed_at s at (bytes_of "reads="))
-    (λ reads p. after_lines form.Broken (lines_end (read_line_at s) reads p (events + 4 + 1))
+    after_number (breaks (events + 4)) (keyed_at s at (bytes_of "reads="))
+    (λ reads p. after_lines breaks (lines_end (read_line_at s) reads p (events + 4 + 1))
     (λ end. cond (eqb end (length s))
-    (form.Whole (record {
+    (Ok (record {
       winter = winter;
       price = price;
       events = events;
       misplaced = misplaced_line (book_days winter) events (lines_said (read_line_at s) reads p);
     }))
-    (form.Broken (events + 4 + 1 + reads))))
+    (breaks (events + 4 + 1 + reads))))
 
 -- what a text that has the form says beside its lines, or the first line that breaks it (rule 8.6)
-unfoldable pub form_of : List ℕ → Form
+unfoldable pub form_of : List ℕ → Result Shape BrokenLine
 form_of s =
-    after_top form.Broken (top_of s)
-    (λ winter price events at. after_lines form.Broken (lines_end (event_line_at s) events at 4) (λ p. rest_of s winter price events p))
+    after_top breaks (top_of s)
+    (λ winter price events at. after_lines breaks (lines_end (event_line_at s) events at 4) (λ p. rest_of s winter price events p))
 
 -- the numbers of the event lines
 unfoldable pub notices_said : List ℕ → List ℕ

@@ -1,14 +1,15 @@
 -- Laws of numbers that are refused where they are too large: none is refused exactly where none is too large, and what they refuse is bounded.
 -- Assumes nothing.
 use Prim.Native.Nat.{ℕ, ◌≤◌, ◌<◌}
-use mathlib.Core.List.{List}
-use mathlib.Core.Path.{◌≡◌}
+use mathlib.Core.List.{List, [], ◌∷◌}
+use mathlib.Core.Path.{◌≡◌, refl}
 use native.Mathlib.Omega.{arith}
+use lib.Dec.{ltb}
 use lib.ListN.{length, get_or}
 use borrow.Author.Tests.{ltb-false, lt-ltb, le-ltb}
 use Rattle.laws.specs.Above.{above_rows, above_table}
 use Rattle.laws.specs.Bounds.{largest_number, largest_place}
-use Rattle.laws.specs.Table.{refusal_at, Row, first_of}
+use Rattle.laws.specs.Table.{refusal_at, Row, row, first_of}
 use Rattle.laws.proofs.RowLaws.{all_rows}
 use Rattle.laws.proofs.Tables.{Numbered, NoneBroken, RowsBounded, row_stops}
 use Rattle.laws.proofs.Walks.{Walked, none_iff_each, walk_numbered}
@@ -18,6 +19,10 @@ abbrev pub AllLow : ℕ → List ℕ → Type 0
 AllLow most xs = (k : ℕ) → k < length xs → get_or xs k 0 ≤ most
 
 module _ (number most : ℕ) (xs : List ℕ) where
+  pub rows_are : above_rows number most xs ≡ (λ k. row number k (ltb most (get_or xs k 0)) ∷ [])
+  unfolding above_rows
+  rows_are = refl
+
   pub none_low : NoneBroken (above_table number most xs) → AllLow most xs
   unfolding above_rows
   none_low none k h = ltb-false most (get_or xs k 0) ((none_iff_each (above_rows number most xs) (length xs)).0 none k h).0

@@ -1,17 +1,9 @@
 // Numbers in a row that are refused where they are too large.
-ghost use Rattle.std.specs.Prelude.{◌≡◌};
-ghost use Rattle.laws.specs.Above.{first_above};
+ghost use Rattle.std.specs.Prelude.{◌≡◌, nat_lt, position};
 
-// The index of the first number above the largest that is taken; where none is, how many numbers there are.
-pub fn first_above(most: u32, numbers: &[u32]) -> usize
-    ensures { result ≡ first_above most numbers.now }
+// The index of the first number above the largest that is taken, if one is.
+pub fn first_above(most: u32, numbers: &[u32]) -> Option<usize>
+    ensures { result ≡ position (λ number. nat_lt most number) numbers.now }
 {
-    let mut k: usize = 0;
-    while k < numbers.len() {
-        if most < numbers[k] {
-            return k;
-        }
-        k += 1;
-    }
-    k
+    numbers.iter().position(|number| most < *number)
 }

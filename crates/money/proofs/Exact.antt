@@ -11,9 +11,8 @@ use Rattle.laws.proofs.Tables.{unrefused_none}
 use Rattle.laws.proofs.Tells.{Tells, table_tells}
 use Rattle.laws.specs.Answer.{Answer}
 use Rattle.laws.specs.Table.{Row, is_refusal}
-use Rattle.money.specs.Pricing.{Priceable, cents_of, cents_written}
+use Rattle.money.specs.Pricing.{Priced, Priceable, cents_of, cents_written}
 use Rattle.money.specs.Refusals.{cents_table, cents_refusal}
-use Rattle.money.specs.declared.pricing.Priced.{Priced}
 use Rattle.money.proofs.PricingLaws.{number_is, answer_accepted, refused_by, written_by_lem}
 use Rattle.money.proofs.RefusalLaws.{table_numbered, unrefused_priceable, priceable_unrefused}
 

@@ -4,5 +4,6 @@ pub mod PriceLaws
 pub mod CentLaws
 pub mod RefusalLaws
 pub mod PricingLaws
+pub mod OneOutcome
 pub mod Exact
 pub mod Demands

@@ -39,3 +39,5 @@ module _ (p e : ℕ) where
   pub worth_is : bad_price p ≡ false → e ≤ most_energy → rounded_worth p e ≡ worth_of p e
   unfolding worth_of
   worth_is b h = rw (b, le-ltb most_energy e h)
+
+pub ruleset price_laws = (price_most, worth_refused, worth_too_much, worth_is)

@@ -7,15 +7,18 @@ use mathlib.Core.Path.{◌≡◌, refl, sym, ap, ◌∙◌}
 use native.Mathlib.Nat.{le_of_eq}
 use native.Mathlib.Omega.{arith}
 use lib.ListN.{length, get_or, drop_of_length-le}
-use borrow.Author.Tests.{eq-eqb, ne_eqb}
+use borrow.Author.Tests.{ne_eqb}
 use Rattle.laws.specs.Answer.{Answer}
 use Rattle.laws.specs.Bounds.{largest_number, largest_place}
 use Rattle.laws.specs.Table.{refusal_at, is_refusal}
 use Rattle.money.specs.Cents.{cents_to, cents_in, total_cents}
-use Rattle.money.specs.Pricing.{refused_with, priced_at, cents_of, cents_written}
+use Rattle.money.specs.Pricing.{Priced, priced_paper, refused_with, priced_at, cents_of, cents_written}
 use Rattle.money.specs.Refusals.{cents_refusal}
-use Rattle.money.specs.declared.pricing.Priced.{Priced}
 use Rattle.money.proofs.RefusalLaws.{refusal_bounded, refusal_room}
+use Rattle.refusals.proofs.RuleNumbers.{refused_is}
+use Rattle.refusals.specs.Refusals.{verdict_paper}
+use Rattle.refusals.specs.declared.refusal.Refusal.{Refusal}
+use Rattle.std.specs.Prelude.{Err, ⊤}
 
 module _ (p : ℕ) (energies : List ℕ) (room : ℕ) where
   abbrev refusal : Answer
@@ -50,15 +53,18 @@ module _ (p : ℕ) (energies : List ℕ) (room : ℕ) where
       by false q = rw (answer_accepted q) (omega arith, omega arith)
 
   -- number and place that tell the refusal
-  module _ (number place : ℕ) (said : refusal_at number place ≡ refusal) where
-    pub told_refused : (number ≡ 0 → ⊥) → is_refusal refusal ≡ true
-    told_refused f = rw (← said, ne_eqb number 0 f)
+  pub told_answer : (number place : ℕ) → refusal_at number place ≡ refusal → (number ≡ 0 → ⊥) → refused_with number place ≡ cents_of p energies room
+  told_answer number place said f =
+      let refused : is_refusal refusal ≡ true = rw (← said, ne_eqb number 0 f) in
+      sym (refused_by refused ∙ rw (← said) refl)
 
-    pub told_accepted : number ≡ 0 → is_refusal refusal ≡ false
-    told_accepted z = rw (← said, eq-eqb number 0 z)
+  -- and the refusal itself
+  module _ (r : Refusal) (said : verdict_paper {A = ⊤} (Err r) ≡ refusal) where
+    pub refused_lem : is_refusal refusal ≡ true
+    refused_lem = rw (← said) (refused_is r.rule r.place)
 
-    pub told_answer : (number ≡ 0 → ⊥) → refused_with number place ≡ cents_of p energies room
-    told_answer f = sym (refused_by (told_refused f) ∙ rw (← said) refl)
+    pub refused_answer : priced_paper (Err r) ≡ cents_of p energies room
+    refused_answer = sym (refused_by refused_lem ∙ rw (← said) refl)
 
   -- of the output's length only its room for the cents counts
   pub answer_room_lem : (other : ℕ) → length energies ≤ room → length energies ≤ other → cents_of p energies room ≡ cents_of p energies other

@@ -19,6 +19,10 @@ use Rattle.money.specs.Price.{bad_price}
 use Rattle.money.specs.Pricing.{Priceable}
 use Rattle.money.specs.Refusals.{price_rows, energy_rows, cents_table, cents_refusal}
 use Rattle.money.specs.Worth.{most_energies}
+use Rattle.refusals.proofs.RuleNumbers.{number_range}
+use Rattle.refusals.specs.Refusals.{rule_number, at, verdict_paper}
+use Rattle.refusals.specs.declared.rule.Rule.{Rule}
+use Rattle.std.specs.Prelude.{Err, ⊤}
 use Rattle.money.proofs.PriceLaws.{RightPrice, right_price, price_right}
 
 -- the guards, one law for each way out
@@ -40,6 +44,8 @@ module _ (p energies room : ℕ) where
       pub none_refused : energies ≤ room → refusal_at 0 0 ≡ first_of (price_rows p energies room)
       unfolding price_rows
       none_refused h = row_goes _ _ m (row_goes _ _ (le-ltb most_energies energies few) (row_goes _ _ (le-ltb room energies h) rows_end))
+
+pub ruleset guard_laws = (price_refused, many_refused, room_refused, none_refused)
 
 -- what holds of a call that its own rows do not refuse
 pub record RightCall (p energies room : ℕ) : Type 0 where
@@ -92,6 +98,10 @@ module _ (p : ℕ) (energies : List ℕ) (room : ℕ) where
     pub by_energies : number ≡ 0 → first_of (energy_rows energies) ≡ cents_refusal p energies room
     unfolding cents_refusal cents_table
     by_energies z = part_goes call (energy_rows energies) (told_none call number e (rows_numbered p (length energies) room) z)
+
+  -- a rule that refuses the call is the refusal, with place 0
+  pub call_refuses : (rule : Rule) → refusal_at (rule_number rule) 0 ≡ first_of call → verdict_paper {A = ⊤} (Err (at rule 0)) ≡ cents_refusal p energies room
+  call_refuses rule e = let some = number_range rule in by_call (rule_number rule) e (λ (z : rule_number rule ≡ 0). omega arith)
 
   -- what is not refused can be priced, and the other way round
   pub unrefused_priceable : is_refusal (cents_refusal p energies room) ≡ false → Priceable p energies room

@@ -1,13 +1,20 @@
 -- The cents of energies: what the call answers, and what it leaves in the lent output.
 -- Assumes nothing.
-use Rattle.std.specs.Prelude.{ℕ, ◌≤◌, ◌<◌, cond, List, length, get_or}
+use Rattle.std.specs.Prelude.{ℕ, ◌≤◌, ◌<◌, cond, List, length, get_or, Ok, Err, Result}
 use Rattle.laws.specs.Bounds.{largest_energy}
 use Rattle.laws.specs.Table.{is_refusal}
 use Rattle.money.specs.Cents.{row_energy, cents_in, total_cents}
 use Rattle.money.specs.Price.{highest_price}
 use Rattle.money.specs.Refusals.{cents_refusal}
 use Rattle.money.specs.Worth.{most_energies}
-use Rattle.money.specs.declared.pricing.Priced.{Priced}
+use Rattle.refusals.specs.Refusals.{rule_number}
+use Rattle.refusals.specs.declared.refusal.Refusal.{Refusal}
+
+-- what the call answers on paper: the refusal number and place, 0 if it is accepted, and the total cents, 0 if it is refused
+pub record Priced : Type 0 where
+  pub number : ℕ
+  pub place : ℕ
+  pub cents : ℕ
 
 -- rule 4.2: no total beside a refusal
 abbrev pub refused_with : ℕ → ℕ → Priced
@@ -16,6 +23,11 @@ refused_with number place = record { number = number; place = place; cents = 0 }
 -- the total, with number and place of an accepted call
 abbrev pub priced_at : ℕ → List ℕ → Priced
 priced_at p energies = record { number = 0; place = 0; cents = total_cents p energies }
+
+-- what the call gives, as this answer
+abbrev pub priced_paper : Result ℕ Refusal → Priced
+priced_paper (Ok cents) = record { number = 0; place = 0; cents = cents }
+priced_paper (Err refusal) = refused_with (rule_number refusal.rule) refusal.place
 
 -- price, energies, and how many numbers the output has (rule 4.2)
 unfoldable pub cents_of : ℕ → List ℕ → ℕ → Priced

@@ -5,13 +5,14 @@
 use Prim.Native.Nat.{ℕ, ◌-◌, ◌≤◌, ◌<◌}
 use mathlib.Core.Bool.{Bool, true, false, ◌&&◌, ◌||◌, true≢false}
 use mathlib.Core.Logic.{◌⊎◌, inl, inr, ⊎_elim, ◌↔◌}
-use mathlib.Core.Path.{◌≡◌, refl}
+use mathlib.Core.Path.{◌≡◌, refl, sym}
 use mathlib.Mathlib.Data.Bool.Basic.{or_inr}
 use native.Mathlib.Omega.{arith}
 use lib.Dec.{leb, ltb}
 use borrow.Author.Tests.{ltb-false, leb-false, le-ltb, lt-leb}
 use Rattle.laws.proofs.Guards.{neither, no_fault}
-use Rattle.laws.proofs.Tables.{NoneBroken}
+use Rattle.laws.proofs.Tables.{NoneBroken, none_accepted, row_stops, row_goes}
+use Rattle.laws.specs.Table.{accepted, first_of}
 use Rattle.notices.specs.Hours.{touches, outside, no_hours, no_band, across_band, bad_hours, bad_length}
 use Rattle.notices.specs.HoursVerdict.{hour_rows}
 use Rattle.notices.specs.Notices.{hours_of}
@@ -95,6 +96,10 @@ module _ (f : Figures) (n : Notice) where
     λ e. let p = neither (no_hours n) (across_band f n) e in (p.0, (in_some_band e, (p.1, tt))),
   )
 
+  -- hours inside one band are told as accepted, at any index
+  pub in_band_told : (k : ℕ) → bad_hours f n ≡ false → accepted ≡ first_of (hour_rows f n k)
+  in_band_told k e = sym (none_accepted (hour_rows f n k) ((hours_kept k).1 e))
+
   -- hours that are bad, but not for want of any, are not inside one band
   pub across_band_lem : bad_hours f n ≡ true → no_hours n ≡ false → across_band f n ≡ true
   unfolding bad_hours
@@ -119,3 +124,6 @@ module _ (f : Figures) (n : Notice) where
 pub length_is : (f : Figures) (n : Notice) (h : ℕ) → h ≡ hours_of n → (ltb h f.shortest || ltb f.longest h) ≡ bad_length f n
 unfolding bad_length
 length_is f n h e = rw e
+
+-- what `hours_verdict` goes by
+pub ruleset told = (in_band_told, across_band_lem, row_stops, row_goes)

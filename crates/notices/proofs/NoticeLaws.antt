@@ -1,10 +1,10 @@
--- The numbers of a notice of a list, and none past the last; how many hours a notice has; and laws of the hours of the first notices together:
--- none of no notice, those of one notice more, and that they only grow.
+-- The numbers of a notice of a list, and of none; how many hours a notice has; and laws of the hours of the first notices together: none of no
+-- notice, those of one notice more, and that they only grow.
 -- Assumes nothing.
 use Prim.Native.Nat.{ℕ, suc, ◌+◌, ◌-◌, ◌*◌, ◌≤◌, ◌<◌}
 use mathlib.Core.List.{List}
 use mathlib.Core.Path.{◌≡◌, refl}
-use borrow.Author.Tests.{lt-ltb, le-ltb}
+use borrow.Author.Tests.{lt-ltb}
 use Rattle.laws.proofs.SumLaws.{sum_none, sum_next, sum_grows}
 use Rattle.notices.specs.Notices.{notice_numbers, count_of, no_notice, notice_from, notice_at, hours_of, hours_to}
 use Rattle.notices.specs.declared.notices.Notice.{Notice}
@@ -13,6 +13,10 @@ pub hours_are : (n : Notice) → hours_of n ≡ n.end - n.start
 unfolding hours_of
 hours_are n = refl
 
+-- a notice of no numbers is none
+pub none_is : (day start end : ℕ) → (day ≡ 0) × ((start ≡ 0) × (end ≡ 0)) → record { day = day; start = start; end = end } ≡ no_notice
+none_is day start end zero = rw (zero.0, zero.1.0, zero.1.1)
+
 module _ (l : List ℕ) where
   abbrev hours_at : ℕ → ℕ
   hours_at k = hours_of (notice_at l k)
@@ -20,10 +24,6 @@ module _ (l : List ℕ) where
   pub notice_read : (k : ℕ) → k < count_of l → notice_from l (k * notice_numbers) ≡ notice_at l k
   unfolding notice_at
   notice_read k h = rw (lt-ltb k (count_of l) h)
-
-  pub notice_past : (k : ℕ) → count_of l ≤ k → no_notice ≡ notice_at l k
-  unfolding notice_at
-  notice_past k h = rw (le-ltb k (count_of l) h)
 
   pub hours_none : hours_to l 0 ≡ 0
   hours_none = sum_none hours_at

@@ -1,12 +1,12 @@
 -- The profiles and their figures: section 3's table, one definition for each column.
 -- Assumes nothing.
-use Rattle.std.specs.Prelude.{ℕ, true, false, cond, eqb}
+use Rattle.std.specs.Prelude.{ℕ, true, false, cond, Ok, Err, Result, eqb}
 use Rattle.notices.specs.declared.profiles.Band.{Band}
 use Rattle.notices.specs.declared.profiles.Figures.{Figures}
-use Rattle.notices.specs.declared.profiles.Named.TheVariants.{Is, NoProfile}
-use Rattle.notices.specs.declared.profiles.Named.{Named}
 use Rattle.notices.specs.declared.profiles.Profile.TheVariants.{Credit, PowerOption}
 use Rattle.notices.specs.declared.profiles.Profile.{Profile}
+use Rattle.refusals.specs.declared.rule.Rule.TheVariants.{NoProfile}
+use Rattle.refusals.specs.declared.rule.Rule.{Rule}
 
 abbrev pub band : ℕ → ℕ → Band
 band s e = record { start = s; end = e }
@@ -28,5 +28,5 @@ abbrev pub profile_number : Profile → ℕ
 profile_number Credit = 1
 profile_number PowerOption = 2
 
-unfoldable pub named : ℕ → Named
-named q = cond (eqb q 1) (Is Credit) (cond (eqb q 2) (Is PowerOption) NoProfile)
+unfoldable pub named : ℕ → Result Profile Rule
+named q = cond (eqb q 1) (Ok Credit) (cond (eqb q 2) (Ok PowerOption) (Err NoProfile))

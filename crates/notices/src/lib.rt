@@ -5,8 +5,8 @@ mod hours;
 mod notices;
 mod profiles;
 
-pub use hours::{HoursFault, HoursVerdict, bad_length, fault_number, hours_verdict};
+pub use hours::{bad_length, hours_verdict};
 pub use notices::{
     LONGEST_LIST, MOST_NOTICES, NOTICE_NUMBERS, Notice, count_in, hours_of, notice_at,
 };
-pub use profiles::{Band, Figures, Named, Profile, profile_named};
+pub use profiles::{Band, Figures, Profile};

@@ -11,8 +11,8 @@ pub const MOST_NOTICES: usize = 100;
 // How many numbers the longest list has.
 pub const LONGEST_LIST: usize = NOTICE_NUMBERS * MOST_NOTICES;
 
-// A notice: its hours are those from start to end - 1 of its day.
-#[derive(Clone, Copy)]
+// A notice: its hours are those from start to end - 1 of its day. The default is no notice: no hours, on day 0.
+#[derive(Clone, Copy, Default)]
 pub struct Notice {
     pub day: u32,
     pub start: u32,
@@ -26,30 +26,27 @@ pub fn count_in(numbers: usize) -> usize
     numbers / NOTICE_NUMBERS
 }
 
-// The notice at index k of a list; past the last whole one, a notice of no hours on day 0.
+// The notice at index k of a list; past the last whole one, no notice.
+#[tactic(auto, using(crate::proofs::NoticeLaws::none_is), unfolding(crate::specs::Notices::notice_at))]
 pub fn notice_at(list: &[u32], k: usize) -> Notice
     ensures { result ≡ notice_at list.now k }
 {
     if count_in(list.len()) <= k {
-        return Notice {
-            day: 0,
-            start: 0,
-            end: 0,
-        };
+        return Notice::default();
     }
+    // By an index: a notice may lie past the last whole one, so that as an array of three it is asked for by `get` and taken apart, no plainer.
     let at = k * NOTICE_NUMBERS;
-    let day = list[at];
-    let start = list[at + 1];
-    let end = list[at + 2];
-    Notice { day, start, end }
+    Notice {
+        day: list[at],
+        start: list[at + 1],
+        end: list[at + 2],
+    }
 }
 
 // How many hours a notice has; none where its end is not after its start.
+#[tactic(auto, unfolding(crate::specs::Notices::hours_of))]
 pub fn hours_of(n: Notice) -> u32
     ensures { result ≡ hours_of n }
 {
-    if n.start < n.end {
-        return n.end - n.start;
-    }
-    0
+    n.end.saturating_sub(n.start)
 }

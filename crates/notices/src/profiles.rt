@@ -2,7 +2,10 @@
 ghost use Rattle.std.specs.Prelude.{◌≡◌};
 ghost use Rattle.notices.specs.Profiles.{figures_of, named};
 
-#[derive(Clone, Copy)]
+use refusals::Rule;
+
+// A profile: winter credit or power option.
+#[derive(Clone, Copy, Debug, PartialEq, Eq)]
 pub enum Profile {
     Credit,
     PowerOption,
@@ -48,6 +51,7 @@ impl Profile {
     };
 
     // The figures by which the rules go.
+    #[tactic(auto, unfolding(crate::specs::Profiles::figures_of))]
     pub fn figures(self) -> Figures
         ensures { result ≡ figures_of self }
     {
@@ -58,20 +62,18 @@ impl Profile {
     }
 }
 
-// The profile of a number, if it is one.
-#[derive(Clone, Copy)]
-pub enum Named {
-    Is(Profile),
-    NoProfile,
-}
+// The profile of a number, if there is one (rule 3.5).
+impl TryFrom<u32> for Profile {
+    type Error = Rule;
 
-// The profile of a number, if there is one.
-pub fn profile_named(number: u32) -> Named
-    ensures { result ≡ named number }
-{
-    match number {
-        1 => Named::Is(Profile::Credit),
-        2 => Named::Is(Profile::PowerOption),
-        _ => Named::NoProfile,
+    ghost try_from_gives = { λ number result. result ≡ named number };
+
+    #[tactic(auto, unfolding(crate::specs::Profiles::named))]
+    fn try_from(number: u32) -> Result<Profile, Rule> {
+        match number {
+            1 => Ok(Profile::Credit),
+            2 => Ok(Profile::PowerOption),
+            _ => Err(Rule::NoProfile),
+        }
     }
 }

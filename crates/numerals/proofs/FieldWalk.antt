@@ -1,7 +1,7 @@
 -- The walk that puts the numbers of a line: its invariant, that the numbers that are left put what all put, with its start, its turn and its
 -- end over plain variables; and the room of a line.
 -- Assumes nothing.
-use Prim.Native.Nat.{ℕ, suc, ◌+◌, ◌-◌, ◌*◌, ◌/◌, ◌≤◌, ◌<◌}
+use Prim.Native.Nat.{ℕ, suc, ◌+◌, ◌*◌, ◌≤◌, ◌<◌}
 use mathlib.Core.Bool.{Bool, true, false}
 use mathlib.Core.List.{List, [], ◌∷◌, ◌++◌, append_assoc, append-nil, map}
 use mathlib.Core.Path.{◌≡◌, refl, sym, ap, ◌∙◌}
@@ -16,7 +16,7 @@ use Rattle.numerals.specs.Lines.{field_bytes, line_bytes}
 use Rattle.numerals.specs.Put.{Put, end_before, field_room, no_room, line_put}
 use Rattle.numerals.specs.Words.{comma, line_end}
 use Rattle.numerals.proofs.LineLaws.{number_line, number_bytes, fields_last, fields_more, line_is}
-use Rattle.numerals.proofs.PutLaws.{put_length, put_same}
+use Rattle.numerals.proofs.PutLaws.{put_length, put_same, put_nothing}
 use Rattle.laws.proofs.Stores.{sets_append}
 
 none_bytes : number_bytes [] ≡ []
@@ -93,27 +93,7 @@ module _ (long at : ℕ) (key ns : List ℕ) where
   unfolding line_put no_room
   room_line h = rw (le-ltb long (at + length key + field_room * length ns) h)
 
--- the test of the room in steps, as code takes it
-module _ (room at key count : ℕ) where
-  pub none_past : room < at → true ≡ no_room room at key count
-  unfolding no_room
-  none_past h = sym (lt-ltb room (at + key + field_room * count) (omega arith))
-
-  pub none_key : at ≤ room → room - at < key → true ≡ no_room room at key count
-  unfolding no_room
-  none_key h k = sym (lt-ltb room (at + key + field_room * count) (omega arith))
-
-  pub none_count : at ≤ room → key ≤ room - at → ltb ((room - at - key) / field_room) count ≡ no_room room at key count
-  unfolding no_room
-  none_count h k = by (ltb ((room - at - key) / field_room) count) refl
-    where
-      by : (t : Bool) → ltb ((room - at - key) / field_room) count ≡ t → t ≡ ltb room (at + key + field_room * count)
-      by true e =
-          let few : (room - at - key) / 21 < count = ltb-true _ _ e in
-          sym (lt-ltb room (at + key + field_room * count) (omega arith))
-      by false e =
-          let enough : count ≤ (room - at - key) / 21 = ltb-false _ _ e in
-          sym (le-ltb room (at + key + field_room * count) (omega arith))
+pub ruleset room_laws = (has_room, line_none, put_length, put_same, put_nothing)
 
 -- a line that has room is put whole
 pub whole_line : {out after : List ℕ} {at next : ℕ} (key ns : List ℕ) → Put out at (line_put (length out) at key ns) next after

@@ -1,16 +1,17 @@
 -- Laws of what is put: parts one after the other, digits, fields, keys, the numbers of a line and lines.
 -- Assumes nothing.
-use Prim.Native.Nat.{ℕ, ◌+◌, ◌/◌, ◌%◌, ◌≤◌, ◌<◌}
-use mathlib.Core.List.{List, [], ◌∷◌, ◌++◌}
+use Prim.Native.Nat.{ℕ, ◌+◌, ◌-◌, ◌/◌, ◌%◌, ◌≤◌, ◌<◌}
+use mathlib.Core.List.{List, [], ◌∷◌, ◌++◌, append_assoc}
 use mathlib.Core.Path.{◌≡◌, refl, sym, ap, ◌∙◌}
-use native.Mathlib.Numerals.{add-one}
 use native.Mathlib.Omega.{arith}
-use lib.ListN.{length, set, get_or, drop, length-append, drop_of_length-le}
-use lib.Seq.{sets, length-sets, drop-cons}
+use lib.ListN.{length, set, take, drop, length-append}
+use lib.Seq.{length-sets, drop-drop}
 use Rattle.numerals.specs.Decimal.{digit_byte, decimal}
 use Rattle.numerals.specs.Lines.{Line, line_bytes, bytes_of_lines}
+use borrow.Rule.Slice.PartMut.{put_mid}
+use Rattle.std.proofs.lemmas.List.Edits.{sets-eq}
 use Rattle.numerals.specs.Put.{Put}
-use Rattle.numerals.proofs.DecimalLaws.{decimal_one, decimal_more}
+use Rattle.numerals.proofs.DecimalLaws.{decimal_one, decimal_more, length_one, length_more}
 use Rattle.numerals.proofs.LineLaws.{lines_none, lines_one, lines_more, lines_append}
 use Rattle.laws.proofs.Stores.{sets_append}
 
@@ -43,15 +44,20 @@ put_digit l i n h = let e : n % 10 ≡ n = omega arith in rw (decimal_one n h, e
 pub put_digits : {l m : List ℕ} {i n p : ℕ} → 10 ≤ n → Put l i (decimal (n / 10)) p m → Put l i (decimal n) (p + 1) (set m p (digit_byte (n % 10)))
 put_digits {m = m} {n = n} {p = p} h a = rw (decimal_more n h) (put_then a (put_byte m p (digit_byte (n % 10))))
 
+pub ruleset number_laws = (length_one, length_more, put_length, put_digit, put_digits)
+
 pub put_end : {l m : List ℕ} {i p : ℕ} (n end : ℕ) → Put l i (decimal n) p m → Put l i (decimal n ++ (end ∷ [])) (p + 1) (set m p end)
 put_end {m = m} {p = p} n end a = put_then a (put_byte m p end)
 
--- the bytes of a key that are still to come: one more, and none
-pub key_next : (l key : List ℕ) (i k : ℕ) → k < length key → sets l i (drop k key) ≡ sets (set l i (get_or key k 0)) (i + 1) (drop (k + 1) key)
-key_next l key i k h = rw (drop-cons key k 0 h, add-one i, add-one k)
-
-pub key_done : (l key : List ℕ) (i k : ℕ) → length key ≤ k → sets l i (drop k key) ≡ l
-key_done l key i k h = rw (drop_of_length-le key h)
+-- bytes copied as they are
+pub put_copy : (l : List ℕ) (at : ℕ) (bytes put : List ℕ) → at + length bytes ≤ length l → put ≡ bytes
+    → Put l at bytes (at + length bytes) (put_mid at (at + length bytes - at) l put)
+put_copy l at bytes put h e = record {
+  ends = refl;
+  holds =
+      let n : at + length bytes - at ≡ length bytes = omega arith in
+      rw (e, n, sets-eq bytes l at h, drop-drop (length bytes) at l) (sym (append_assoc (take at l) bytes (drop (at + length bytes) l)));
+}
 
 -- lines: none, one, one and more behind it, and some and more behind them
 pub put_none : (l : List ℕ) (i : ℕ) → Put l i (bytes_of_lines []) i l

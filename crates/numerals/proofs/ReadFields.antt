@@ -10,16 +10,14 @@ use native.Mathlib.Nat.{eq-zero-or-pos}
 use native.Mathlib.Omega.{arith}
 use lib.ListN.{length, drop, length-append}
 use borrow.Author.Tests.{le-ltb, eq-eqb, ne_eqb}
+use Rattle.std.specs.Prelude.{Some}
 use Rattle.laws.proofs.Every.{Every}
 use Rattle.laws.proofs.Order.{either_order}
 use Rattle.numerals.specs.Decimal.{digit_byte, is_digit, decimal}
-use Rattle.numerals.specs.Fields.{largest, Small, end_from, digits_from, field_from, field_at, word_from, word_at, keyed_at}
+use Rattle.numerals.specs.Fields.{largest, Small, end_from, digits_from, field_from, field_at, word_from, word_at, keyed_at, field, number}
 use Rattle.numerals.specs.Lines.{line_bytes}
 use Rattle.numerals.specs.Rows.{row_at}
 use Rattle.numerals.specs.Words.{comma, line_end}
-use Rattle.numerals.specs.declared.fields.Field.TheVariants as field
-use Rattle.numerals.specs.declared.fields.Number.TheVariants as number
-use Rattle.numerals.specs.declared.fields.Step.TheVariants as step
 use Rattle.numerals.proofs.DecimalLaws.{digit_is, decimal_one, decimal_more, length_more, Lead, lead}
 use Rattle.numerals.proofs.Here.{past}
 use Rattle.numerals.proofs.LineLaws.{fields_last, fields_more, key_line, number_bytes, line_one}
@@ -50,12 +48,12 @@ digits_read (suc f) n l p g k =
 
 -- a number at the front of some bytes, before a byte c that is no digit
 module _ (n c : ℕ) (l : List ℕ) (p : ℕ) (k : Small n) (ends : is_digit c ≡ false) where
-  stops : (q v : ℕ) → digits_from (c ∷ l) q v ≡ field.Is v c (q + 1)
+  stops : (q v : ℕ) → digits_from (c ∷ l) q v ≡ Some (field v c (q + 1))
   unfolding digits_from end_from
   stops q v = rw ends
 
   -- 0 is the one digit
-  reads_zero : n ≡ 0 → field_from (decimal n ++ (c ∷ l)) p ≡ field.Is n c (p + length (decimal n) + 1)
+  reads_zero : n ≡ 0 → field_from (decimal n ++ (c ∷ l)) p ≡ Some (field n c (p + length (decimal n) + 1))
   unfolding field_from end_from
   reads_zero z = rw (z, decimal_one 0 (omega arith), digit_is 48 (record { low = omega arith; high = omega arith }))
 
@@ -71,7 +69,7 @@ module _ (n c : ℕ) (l : List ℕ) (p : ℕ) (k : Small n) (ends : is_digit c �
         le-ltb largest (48 + d - 48) (omega arith),
       )
 
-  reads_more : Lead n → field_from (decimal n ++ (c ∷ l)) p ≡ field.Is n c (p + length (decimal n) + 1)
+  reads_more : Lead n → field_from (decimal n ++ (c ∷ l)) p ≡ Some (field n c (p + length (decimal n) + 1))
   reads_more r =
       ap (λ (x : List ℕ). field_from (x ++ (c ∷ l)) p) r.is
       ∙ by_digits r.first (r.more ++ (c ∷ l)) r.above r.small
@@ -79,12 +77,12 @@ module _ (n c : ℕ) (l : List ℕ) (p : ℕ) (k : Small n) (ends : is_digit c �
       ∙ digits_read (suc n) n (c ∷ l) p (omega arith) k
       ∙ stops (p + length (decimal n)) n
 
-  front_reads : field_from (decimal n ++ (c ∷ l)) p ≡ field.Is n c (p + length (decimal n) + 1)
+  front_reads : field_from (decimal n ++ (c ∷ l)) p ≡ Some (field n c (p + length (decimal n) + 1))
   front_reads = ⊎_elim (λ z. reads_zero z) (λ z. reads_more (lead n z)) (eq-zero-or-pos n)
 
 -- the number at a position and the byte that ends it, and what follows
 pub record FieldReads (s r : List ℕ) (at n c : ℕ) : Type 0 where
-  pub read : field_at s at ≡ field.Is n c (at + length (decimal n ++ (c ∷ [])))
+  pub read : field_at s at ≡ Some (field n c (at + length (decimal n ++ (c ∷ []))))
   pub next : drop (at + length (decimal n ++ (c ∷ []))) s ≡ r
 
 pub field_reads : (s r : List ℕ) (at n c : ℕ) → Small n → is_digit c ≡ false → drop at s ≡ decimal n ++ (c ∷ r) → FieldReads s r at n c
@@ -97,7 +95,7 @@ field_reads s r at n c k ends e =
     }
 
 -- a word
-word_front : (word r : List ℕ) (p : ℕ) → word_from (word ++ r) p word ≡ step.To (p + length word)
+word_front : (word r : List ℕ) (p : ℕ) → word_from (word ++ r) p word ≡ Some (p + length word)
 unfolding word_from
 word_front [] [] p = let z : p + 0 ≡ p = omega arith in rw z
 word_front [] (b ∷ r) p = let z : p + 0 ≡ p = omega arith in rw z
@@ -105,7 +103,7 @@ word_front (a ∷ word) r p =
     let z : p + 1 + length word ≡ p + suc (length word) = omega arith in
     rw (eq-eqb a a refl, ← z) (word_front word r (p + 1))
 
-pub word_reads : (s r : List ℕ) (at : ℕ) (word : List ℕ) → drop at s ≡ word ++ r → word_at s at word ≡ step.To (at + length word)
+pub word_reads : (s r : List ℕ) (at : ℕ) (word : List ℕ) → drop at s ≡ word ++ r → word_at s at word ≡ Some (at + length word)
 unfolding word_at
 word_reads s r at word e = ap (λ (x : List ℕ). word_from x at word) e ∙ word_front word r at
 
@@ -120,7 +118,7 @@ line_end_ends = refl
 
 -- a line of a key and one number
 pub keyed_reads : (s key r : List ℕ) (at n : ℕ) → Small n → drop at s ≡ line_bytes (key_line key n) ++ r
-    → keyed_at s at key ≡ number.Is n (at + length (line_bytes (key_line key n)))
+    → keyed_at s at key ≡ Some (number n (at + length (line_bytes (key_line key n))))
 unfolding keyed_at
 keyed_reads s key r at n k e =
     let end = decimal n ++ (line_end ∷ []) in
@@ -131,7 +129,7 @@ keyed_reads s key r at n k e =
 
 -- the numbers of a line, at least one and at most `most`
 pub row_reads : (s r : List ℕ) (at most : ℕ) (vs : List ℕ) → Every Small vs → 1 ≤ length vs → length vs ≤ most → drop at s ≡ number_bytes vs ++ r
-    → row_at most s at ≡ record { said = vs; end = step.To (at + length (number_bytes vs)) }
+    → row_at most s at ≡ record { said = vs; end = Some (at + length (number_bytes vs)) }
 unfolding row_at
 row_reads s r at most [] small some few e = absurd (omega arith)
 row_reads s r at zero (v ∷ vs) small some few e = absurd (omega arith)

@@ -1,53 +1,53 @@
 -- Laws of the numbers of a line: the ways out and the turn of the loop that reads and stores them. A turn takes one number from what is left
 -- and stores it, so that what is left stores the rest.
 -- Assumes nothing.
-use Prim.Native.Nat.{ℕ, suc, ◌+◌, ◌-◌, ◌<◌}
+use Prim.Native.Nat.{ℕ, suc, ◌+◌, ◌-◌, ◌≤◌, ◌<◌}
 use mathlib.Core.List.{List, []}
 use mathlib.Core.Path.{◌≡◌, refl, sym, ap, ◌∙◌}
 use native.Mathlib.Omega.{arith}
 use lib.ListN.{length, set, length-set}
 use lib.Seq.{sets}
 use borrow.Author.Tests.{eq-eqb, ne_eqb}
-use Rattle.numerals.specs.Fields.{after_step, field_at}
-use Rattle.numerals.specs.Rows.{Read, ahead, no_number, after_end, row_at, row_told, next_index}
+use Rattle.std.specs.Prelude.{Option, Some, None}
+use Rattle.numerals.specs.Fields.{after_step, field_at, field}
+use Rattle.numerals.specs.Rows.{Read, ahead, no_number, after_end, row_at, row_told, next_index, row}
 use Rattle.numerals.specs.Words.{comma, line_end}
-use Rattle.numerals.specs.declared.fields.Field.TheVariants as field
-use Rattle.numerals.specs.declared.fields.Step.{Step}
-use Rattle.numerals.specs.declared.fields.Step.TheVariants as step
 use Rattle.numerals.proofs.Stores.{stored}
+use Rattle.numerals.proofs.Ways.{row_parts}
 use Rattle.numerals.specs.declared.rows.Row.{Row}
-use Rattle.numerals.specs.declared.rows.Row.TheVariants as row
 
 -- numbers that are told after k others are told after one more
 told_ahead : (k v : ℕ) (r : Read (List ℕ)) → row_told k (ahead v r) ≡ row_told (k + 1) r
 told_ahead k v r = by r.end
   where
-    by : (e : Step) → after_step row.Broken e (λ p. row.Of (k + suc (length r.said)) p) ≡ after_step row.Broken e (λ p. row.Of (k + 1 + length r.said) p)
-    by (step.To p) = let n : k + suc (length r.said) ≡ k + 1 + length r.said = omega arith in rw n
-    by step.Broken = refl
+    by : (e : Option ℕ) → after_step None e (λ p. Some (row (k + suc (length r.said)) p)) ≡ after_step None e (λ p. Some (row (k + 1 + length r.said) p))
+    by (Some p) = let n : k + suc (length r.said) ≡ k + 1 + length r.said = omega arith in rw n
+    by None = refl
 
-pub row_done : (n : ℕ) (s : List ℕ) (at : ℕ) → n ≡ 0 → row_at n s at ≡ no_number
-unfolding row_at
-row_done n s at h = rw h
-
-module _ (n : ℕ) (s : List ℕ) (at : ℕ) (h : 0 < n) where
-  pub row_turn : row_at n s at ≡ after_end (field_at s at) (λ p. row_at (n - 1) s p)
+-- after so many numbers of a line that may have `most`
+module _ (most count : ℕ) (s : List ℕ) (at : ℕ) where
+  pub row_done : most ≤ count → row_at (most - count) s at ≡ no_number
   unfolding row_at
-  row_turn = let m : n ≡ suc (n - 1) = omega arith in ap (λ (k : ℕ). row_at k s at) m
+  row_done h = let z : most - count ≡ 0 = omega arith in rw z
 
-  pub row_none : field_at s at ≡ field.Broken → row_at n s at ≡ no_number
-  row_none e = row_turn ∙ rw e
+  module _ (h : count < most) where
+    row_turn : row_at (most - count) s at ≡ after_end (field_at s at) (λ p. row_at (most - (count + 1)) s p)
+    unfolding row_at
+    row_turn = let m : most - count ≡ suc (most - (count + 1)) = omega arith in ap (λ (k : ℕ). row_at k s at) m
 
-  module _ {v b p : ℕ} (e : field_at s at ≡ field.Is v b p) where
-    pub row_last : b ≡ line_end → row_at n s at ≡ ahead v (record { said = []; end = step.To p })
-    row_last f = row_turn ∙ rw (e, eq-eqb b line_end f)
+    pub row_none : field_at s at ≡ None → row_at (most - count) s at ≡ no_number
+    row_none e = row_turn ∙ rw e
 
-    module _ (g : b ≡ line_end → ⊥) where
-      pub row_bad : (b ≡ comma → ⊥) → row_at n s at ≡ ahead v no_number
-      row_bad f = row_turn ∙ rw (e, ne_eqb b line_end g, ne_eqb b comma f)
+    module _ {v b p : ℕ} (e : field_at s at ≡ Some (field v b p)) where
+      pub row_last : b ≡ line_end → row_at (most - count) s at ≡ ahead v (record { said = []; end = Some p })
+      row_last f = row_turn ∙ rw (e, eq-eqb b line_end f)
 
-      pub row_more : b ≡ comma → row_at n s at ≡ ahead v (row_at (n - 1) s p)
-      row_more f = row_turn ∙ rw (e, ne_eqb b line_end g, eq-eqb b comma f)
+      module _ (g : b ≡ line_end → ⊥) where
+        pub row_bad : (b ≡ comma → ⊥) → row_at (most - count) s at ≡ ahead v no_number
+        row_bad f = row_turn ∙ rw (e, ne_eqb b line_end g, ne_eqb b comma f)
+
+        pub row_more : b ≡ comma → row_at (most - count) s at ≡ ahead v (row_at (most - (count + 1)) s p)
+        row_more f = row_turn ∙ rw (e, ne_eqb b line_end g, eq-eqb b comma f)
 
 -- the loop's invariant: after `count` numbers the rest tells and stores what all tell and store
 pub record Left (all : Read (List ℕ)) (came : List ℕ) (first : ℕ) (rest : Read (List ℕ)) (out : List ℕ) (count k : ℕ) : Type 0 where
@@ -56,7 +56,7 @@ pub record Left (all : Read (List ℕ)) (came : List ℕ) (first : ℕ) (rest : 
   pub size : length out ≡ length came
 
 -- what the loop answers and leaves
-abbrev pub Stored : Read (List ℕ) → List ℕ → ℕ → List ℕ → Row → Type 0
+abbrev pub Stored : Read (List ℕ) → List ℕ → ℕ → List ℕ → Option Row → Type 0
 Stored all came first out told = (told ≡ row_told 0 all) × (out ≡ sets came first all.said)
 
 module _ {all : Read (List ℕ)} {came : List ℕ} {first : ℕ} {rest : Read (List ℕ)} {out : List ℕ} {count k : ℕ}
@@ -71,31 +71,32 @@ module _ {all : Read (List ℕ)} {came : List ℕ} {first : ℕ} {rest : Read (L
   }
 
   -- the line has ended, or is broken
-  pub left_ended : {p : ℕ} → rest ≡ record { said = []; end = step.To p } → Stored all came first out (row.Of count p)
+  pub left_ended : {p : ℕ} → rest ≡ record { said = []; end = Some p } → Stored all came first out (Some (row count p))
   left_ended e =
       let z : count + 0 ≡ count = omega arith in
       (sym (h.tells ∙ rw (e, z)), sym (h.stores ∙ rw e))
 
-  pub left_broken : rest ≡ no_number → Stored all came first out row.Broken
+  pub left_broken : rest ≡ no_number → Stored all came first out None
   left_broken e = (sym (h.tells ∙ rw e), sym (h.stores ∙ rw e))
+
+pub ruleset broken_laws = (left_broken, row_done, row_none)
 
 -- what is told of the numbers of a line: that they are broken, or how many they are and where they end
 abbrev pub Told : Read (List ℕ) → ℕ → ℕ → Type 0
-Told r count p = (r.end ≡ step.To p) × (count ≡ length r.said)
+Told r count p = (r.end ≡ Some p) × (count ≡ length r.said)
 
-pub told_broken : (r : Read (List ℕ)) → row.Broken ≡ row_told 0 r → r.end ≡ step.Broken
+pub told_broken : (r : Read (List ℕ)) → None ≡ row_told 0 r → r.end ≡ None
 told_broken r e = by r.end e
   where
-    by : (x : Step) → row.Broken ≡ after_step row.Broken x (λ p. row.Of (0 + length r.said) p) → x ≡ step.Broken
-    by (step.To p) e = let z : ◌≡◌ {A = ℕ} 0 1 = cc in absurd (omega arith)
-    by step.Broken e = refl
+    by : (x : Option ℕ) → None ≡ after_step None x (λ p. Some (row (0 + length r.said) p)) → x ≡ None
+    by (Some p) e = let z : ◌≡◌ {A = ℕ} 0 1 = cc in absurd (omega arith)
+    by None e = refl
 
-pub told_of : (r : Read (List ℕ)) (count p : ℕ) → row.Of count p ≡ row_told 0 r → Told r count p
+pub told_of : (r : Read (List ℕ)) (count p : ℕ) → Some (row count p) ≡ row_told 0 r → Told r count p
 told_of r count p e = by r.end e
   where
-    by : (x : Step) → row.Of count p ≡ after_step row.Broken x (λ q. row.Of (0 + length r.said) q) → (x ≡ step.To p) × (count ≡ length r.said)
-    by (step.To q) e =
-        let same : q ≡ p = cc in
-        let many : count ≡ 0 + length r.said = cc in
-        (ap step.To same, omega arith)
-    by step.Broken e = let z : ◌≡◌ {A = ℕ} 0 1 = cc in absurd (omega arith)
+    by : (x : Option ℕ) → Some (row count p) ≡ after_step None x (λ q. Some (row (0 + length r.said) q)) → (x ≡ Some p) × (count ≡ length r.said)
+    by (Some q) e =
+        let same = row_parts e in
+        (ap Some (sym same.1), omega (arith, same.0))
+    by None e = let z : ◌≡◌ {A = ℕ} 0 1 = cc in absurd (omega arith)

@@ -10,17 +10,16 @@ use native.Mathlib.Omega.{arith}
 use lib.Dec.{ltb, eqb}
 use lib.ListN.{length, drop, length-append}
 use borrow.Author.Tests.{ltb-false, eqb-true, eqb-false}
+use Rattle.std.proofs.lemmas.Option.{same_Some}
+use Rattle.std.specs.Prelude.{Some, None}
 use Rattle.numerals.specs.Decimal.{digit_byte, is_digit, with_digit, decimal}
-use Rattle.numerals.specs.Fields.{largest, Small, end_from, digits_from, field_from, field_at, word_from, word_at, keyed_at}
+use Rattle.numerals.specs.Fields.{largest, Small, end_from, digits_from, field_from, field_at, word_from, word_at, keyed_at, field, number}
 use Rattle.numerals.specs.Lines.{line_bytes}
 use Rattle.numerals.specs.Words.{line_end}
-use Rattle.numerals.specs.declared.fields.Field.TheVariants as field
-use Rattle.numerals.specs.declared.fields.Number.TheVariants as number
-use Rattle.numerals.specs.declared.fields.Step.TheVariants as step
 use Rattle.numerals.proofs.DecimalLaws.{digit_range, decimal_one, decimal_next}
 use Rattle.numerals.proofs.Here.{Here, here_then}
 use Rattle.numerals.proofs.LineLaws.{key_line, line_one}
-use Rattle.numerals.proofs.Ways.{either, first, second, no_field, no_number, no_step, after_field_lem, after_step_lem}
+use Rattle.numerals.proofs.Ways.{either, first, second, no_field, no_number, no_step, field_parts, number_parts, after_field_lem, after_step_lem}
 
 -- digits taken from the front of some bytes after digits worth v, all together worth n, and the byte c that ends them
 record Taken (l : List ℕ) (p v n c q : ℕ) : Type 0 where
@@ -31,27 +30,25 @@ record Taken (l : List ℕ) (p v n c q : ℕ) : Type 0 where
   ends : q ≡ p + length taken + 1
   small : Small n
 
-none_taken : (b : ℕ) (l : List ℕ) (p v n c q : ℕ) → Small v → end_from (b ∷ l) p v ≡ field.Is n c q → Taken (b ∷ l) p v n c q
+none_taken : (b : ℕ) (l : List ℕ) (p v n c q : ℕ) → Small v → end_from (b ∷ l) p v ≡ Some (field n c q) → Taken (b ∷ l) p v n c q
 unfolding end_from
 none_taken b l p v n c q k e =
-    let same : n ≡ v = cc in
-    let byte : b ≡ c = cc in
-    let stays : q ≡ p + 1 = cc in
+    let same = field_parts e in
     record {
       taken = [];
       rest = l;
-      split = rw byte;
-      digits = ap decimal same ∙ sym (append-nil (decimal v));
-      ends = omega arith;
-      small = omega arith;
+      split = rw same.1;
+      digits = ap decimal (sym same.0) ∙ sym (append-nil (decimal v));
+      ends = omega (arith, same.2);
+      small = omega (arith, same.0);
     }
 
-zero_taken : (l : List ℕ) (p n c q : ℕ) → end_from l p 0 ≡ field.Is n c q → Taken l p 0 n c q
+zero_taken : (l : List ℕ) (p n c q : ℕ) → end_from l p 0 ≡ Some (field n c q) → Taken l p 0 n c q
 unfolding end_from
 zero_taken [] p n c q e = absurd (no_field n c q e)
 zero_taken (b ∷ l) p n c q e = none_taken b l p 0 n c q (omega arith) e
 
-digits_taken : (l : List ℕ) (p v n c q : ℕ) → 0 < v → Small v → digits_from l p v ≡ field.Is n c q → Taken l p v n c q
+digits_taken : (l : List ℕ) (p v n c q : ℕ) → 0 < v → Small v → digits_from l p v ≡ Some (field n c q) → Taken l p v n c q
 unfolding digits_from
 digits_taken [] p v n c q h k e = absurd (no_field n c q e)
 digits_taken (b ∷ l) p v n c q h k e =
@@ -59,7 +56,7 @@ digits_taken (b ∷ l) p v n c q h k e =
     (λ t x.
     let w = with_digit v b in
     let g = digit_range b t in
-    let fits = second (ltb largest w) field.Broken _ (no_field n c q) x in
+    let fits = second (ltb largest w) None _ (no_field n c q) x in
     let r = digits_taken l (p + 1) w n c q (omega arith) (ltb-false largest w fits.0) fits.1 in
     let byte : b ≡ digit_byte (b - 48) = omega arith in
     record {
@@ -96,11 +93,11 @@ module _ (s : List ℕ) (at n c q : ℕ) where
         small = r.small;
       }
 
-  field_from_lem : (l : List ℕ) → drop at s ≡ l → field_from l at ≡ field.Is n c q → FieldWritten s at n c q
+  field_from_lem : (l : List ℕ) → drop at s ≡ l → field_from l at ≡ Some (field n c q) → FieldWritten s at n c q
   unfolding field_from
   field_from_lem [] o e = absurd (no_field n c q e)
   field_from_lem (b ∷ l) o e =
-      let digit = first (is_digit b) _ field.Broken (no_field n c q) e in
+      let digit = first (is_digit b) _ None (no_field n c q) e in
       let g = digit_range b digit.0 in
       let byte : b ≡ digit_byte (b - 48) = omega arith in
       let one : decimal (b - 48) ≡ b ∷ [] = decimal_one (b - 48) (omega arith) ∙ ap (λ (x : ℕ). x ∷ []) (sym byte) in
@@ -112,22 +109,22 @@ module _ (s : List ℕ) (at n c q : ℕ) where
       let above : 0 < b - 48 = ⊎_elim (λ (z : b - 48 ≡ 0). absurd (eqb-false b 48 t (omega arith))) (λ z. z) (eq-zero-or-pos (b - 48)) in
       first_taken b l (b - 48) o one (digits_taken l (at + 1) (b - 48) n c q above (omega arith) x))
 
-  pub field_written : field_at s at ≡ field.Is n c q → FieldWritten s at n c q
+  pub field_written : field_at s at ≡ Some (field n c q) → FieldWritten s at n c q
   unfolding field_at
   field_written e = field_from_lem (drop at s) refl e
 
 -- what is read as a word is that word
-word_from_lem : (word l : List ℕ) (p q : ℕ) → word_from l p word ≡ step.To q → (l ≡ word ++ drop (length word) l) × (q ≡ p + length word)
+word_from_lem : (word l : List ℕ) (p q : ℕ) → word_from l p word ≡ Some q → (l ≡ word ++ drop (length word) l) × (q ≡ p + length word)
 unfolding word_from
-word_from_lem [] [] p q e = let n : q ≡ p = cc in (refl, omega arith)
-word_from_lem [] (b ∷ l) p q e = let n : q ≡ p = cc in (refl, omega arith)
+word_from_lem [] [] p q e = (refl, omega (arith, same_Some _ _ e))
+word_from_lem [] (b ∷ l) p q e = (refl, omega (arith, same_Some _ _ e))
 word_from_lem (k ∷ word) [] p q e = absurd (no_step q e)
 word_from_lem (k ∷ word) (b ∷ l) p q e =
-    let same = first (eqb b k) (word_from l (p + 1) word) step.Broken (no_step q) e in
+    let same = first (eqb b k) (word_from l (p + 1) word) None (no_step q) e in
     let r = word_from_lem word l (p + 1) q same.1 in
     (rw (eqb-true b k same.0) (ap (λ (m : List ℕ). k ∷ m) r.0), omega arith)
 
-pub word_written : (s : List ℕ) (at : ℕ) (word : List ℕ) (q : ℕ) → word_at s at word ≡ step.To q → Here s at word q
+pub word_written : (s : List ℕ) (at : ℕ) (word : List ℕ) (q : ℕ) → word_at s at word ≡ Some q → Here s at word q
 unfolding word_at
 word_written s at word q e =
     let r = word_from_lem word (drop at s) at q e in
@@ -138,11 +135,11 @@ pub record KeyedWritten (s : List ℕ) (at : ℕ) (key : List ℕ) (n q : ℕ) :
   pub here : Here s at (line_bytes (key_line key n)) q
   pub small : Small n
 
-pub keyed_written : (s : List ℕ) (at : ℕ) (key : List ℕ) (n q : ℕ) → keyed_at s at key ≡ number.Is n q → KeyedWritten s at key n q
+pub keyed_written : (s : List ℕ) (at : ℕ) (key : List ℕ) (n q : ℕ) → keyed_at s at key ≡ Some (number n q) → KeyedWritten s at key n q
 unfolding keyed_at
 keyed_written s at key n q e =
-    after_step_lem number.Broken (no_number n q) (word_at s at key) _ e
-    (λ p to on. after_field_lem number.Broken (no_number n q) line_end (field_at s p) _ on
+    after_step_lem None (no_number n q) (word_at s at key) _ e
+    (λ p to on. after_field_lem None (no_number n q) line_end (field_at s p) _ on
     (λ v r is same.
-    let w = field_written s p n line_end q (cc (is, same)) in
+    let w = field_written s p n line_end q (is ∙ rw ((number_parts same).0, (number_parts same).1)) in
     record { here = rw line_one (here_then (word_written s at key p to) w.here); small = w.small }))

@@ -8,14 +8,13 @@ use native.Mathlib.Omega.{arith}
 use lib.Dec.{eqb}
 use lib.ListN.{length}
 use borrow.Author.Tests.{eqb-true}
+use Rattle.std.specs.Prelude.{Option, Some, None}
 use Rattle.laws.proofs.Every.{Every}
 use Rattle.numerals.specs.Decimal.{decimal}
-use Rattle.numerals.specs.Fields.{Small, field_at}
+use Rattle.numerals.specs.Fields.{Small, field_at, field}
 use Rattle.numerals.specs.Rows.{Read, no_number, ahead, after_end, row_at}
 use Rattle.numerals.specs.Words.{comma, line_end}
 use Rattle.numerals.specs.declared.fields.Field.{Field}
-use Rattle.numerals.specs.declared.fields.Field.TheVariants as field
-use Rattle.numerals.specs.declared.fields.Step.TheVariants as step
 use Rattle.numerals.proofs.Here.{Here, here_then, here_byte}
 use Rattle.numerals.proofs.LineLaws.{number_bytes, fields_last, fields_more}
 use Rattle.numerals.proofs.Ways.{no_step}
@@ -42,28 +41,28 @@ more_written most s at v p (u ∷ us) q w r = record {
 }
 
 -- one number more, by the byte that ends it: between numbers, of the line, or another
-module _ (most : ℕ) (s : List ℕ) (at q : ℕ) (on : (p : ℕ) → (row_at most s p).end ≡ step.To q → RowWritten most s p (row_at most s p).said q) where
-  comma_or : (t : Bool) (v b p : ℕ) → eqb b comma ≡ t → field_at s at ≡ field.Is v b p → (ahead v (cond t (row_at most s p) no_number)).end ≡ step.To q
+module _ (most : ℕ) (s : List ℕ) (at q : ℕ) (on : (p : ℕ) → (row_at most s p).end ≡ Some q → RowWritten most s p (row_at most s p).said q) where
+  comma_or : (t : Bool) (v b p : ℕ) → eqb b comma ≡ t → field_at s at ≡ Some (field v b p) → (ahead v (cond t (row_at most s p) no_number)).end ≡ Some q
       → RowWritten (suc most) s at (ahead v (cond t (row_at most s p) no_number)).said q
   comma_or true v b p c i e =
-      let w = field_written s at v comma p (i ∙ ap (λ (x : ℕ). field.Is v x p) (eqb-true b comma c)) in
+      let w = field_written s at v comma p (i ∙ ap (λ (x : ℕ). Some (field v x p)) (eqb-true b comma c)) in
       more_written most s at v p (row_at most s p).said q w (on p e)
   comma_or false v b p c i e = absurd (no_step q e)
 
   abbrev ended : Bool → ℕ → ℕ → ℕ → Read (List ℕ)
-  ended t v b p = ahead v (cond t (record { said = []; end = step.To p }) (cond (eqb b comma) (row_at most s p) no_number))
+  ended t v b p = ahead v (cond t (record { said = []; end = Some p }) (cond (eqb b comma) (row_at most s p) no_number))
 
-  end_or : (t : Bool) (v b p : ℕ) → eqb b line_end ≡ t → field_at s at ≡ field.Is v b p → (ended t v b p).end ≡ step.To q
+  end_or : (t : Bool) (v b p : ℕ) → eqb b line_end ≡ t → field_at s at ≡ Some (field v b p) → (ended t v b p).end ≡ Some q
       → RowWritten (suc most) s at (ended t v b p).said q
   end_or true v b p c i e = last_written most s at v q (field_written s at v line_end q (i ∙ cc (eqb-true b line_end c)))
   end_or false v b p c i e = comma_or (eqb b comma) v b p refl i e
 
-  by_field : (x : Field) → field_at s at ≡ x → (after_end x (λ p. row_at most s p)).end ≡ step.To q
+  by_field : (x : Option Field) → field_at s at ≡ x → (after_end x (λ p. row_at most s p)).end ≡ Some q
       → RowWritten (suc most) s at (after_end x (λ p. row_at most s p)).said q
-  by_field field.Broken i e = absurd (no_step q e)
-  by_field (field.Is v b p) i e = end_or (eqb b line_end) v b p refl i e
+  by_field None i e = absurd (no_step q e)
+  by_field (Some f) i e = end_or (eqb f.end line_end) f.value f.end f.next refl i e
 
-pub row_written : (most : ℕ) (s : List ℕ) (at q : ℕ) → (row_at most s at).end ≡ step.To q → RowWritten most s at (row_at most s at).said q
+pub row_written : (most : ℕ) (s : List ℕ) (at q : ℕ) → (row_at most s at).end ≡ Some q → RowWritten most s at (row_at most s at).said q
 unfolding row_at
 row_written zero s at q e = absurd (no_step q e)
 row_written (suc most) s at q e = by_field most s at q (λ p h. row_written most s p q h) (field_at s at) refl e

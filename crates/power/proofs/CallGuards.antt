@@ -1,24 +1,31 @@
--- What each guard of a call refuses, past what the book was refused with: one law for each way out.
+-- What each guard of a call refuses, past what the book is refused with: one law for each way out.
 -- Assumes nothing.
 use Prim.Native.Nat.{ℕ}
 use mathlib.Core.Bool.{true, false}
-use mathlib.Core.Path.{◌≡◌, ◌∙◌}
+use mathlib.Core.Path.{◌≡◌, sym, ◌∙◌}
+use native.Mathlib.Omega.{arith}
 use Rattle.book.proofs.RefusalLaws.{book_numbered}
 use Rattle.book.specs.Refusals.{book_rows}
-use Rattle.laws.proofs.Tables.{row_stops, row_goes, rows_end, told_stops, told_goes}
-use Rattle.laws.specs.Table.{refusal_at, first_of}
+use Rattle.laws.proofs.Tables.{row_stops, row_goes, rows_end, accepted_none, told_stops, part_goes}
+use Rattle.laws.specs.Table.{accepted, refusal_at, first_of}
+use Rattle.refusals.proofs.RuleNumbers.{number_range}
+use Rattle.refusals.specs.Refusals.{rule_number}
+use Rattle.refusals.specs.declared.rule.Rule.{Rule}
 use Rattle.schedule.specs.ListCheck.{bad_list}
 use Rattle.power.specs.Refusals.{short_room, wrong_references, power_own_rows, power_call_rows}
 
-module _ (w readings numbers room totals given number : ℕ) (e : refusal_at number 0 ≡ first_of (book_rows w readings)) where
-  pub book_refused : (number ≡ 0 → ⊥) → refusal_at number 0 ≡ first_of (power_call_rows w readings numbers room totals given)
+module _ (w readings numbers room totals given : ℕ) where
+  pub book_refused : (rule : Rule) → refusal_at (rule_number rule) 0 ≡ first_of (book_rows w readings)
+      → refusal_at (rule_number rule) 0 ≡ first_of (power_call_rows w readings numbers room totals given)
   unfolding power_call_rows
-  book_refused f = told_stops (book_rows w readings) number e (power_own_rows numbers room totals given) f
+  book_refused rule e =
+      let some = number_range rule in
+      told_stops (book_rows w readings) (rule_number rule) e (power_own_rows numbers room totals given) (λ (z : rule_number rule ≡ 0). omega arith)
 
-  module _ (z : number ≡ 0) where
+  module _ (e : accepted ≡ first_of (book_rows w readings)) where
     goes : first_of (power_own_rows numbers room totals given) ≡ first_of (power_call_rows w readings numbers room totals given)
     unfolding power_call_rows
-    goes = told_goes (book_rows w readings) number e (book_numbered w readings) z (power_own_rows numbers room totals given)
+    goes = part_goes (book_rows w readings) (power_own_rows numbers room totals given) (accepted_none (book_rows w readings) (book_numbered w readings) (sym e))
 
     pub list_refused : bad_list numbers ≡ true → refusal_at 4 0 ≡ first_of (power_call_rows w readings numbers room totals given)
     list_refused f = row_stops _ _ f ∙ goes
@@ -31,5 +38,7 @@ module _ (w readings numbers room totals given number : ℕ) (e : refusal_at num
         pub references_refused : wrong_references numbers given ≡ true → refusal_at 40 0 ≡ first_of (power_call_rows w readings numbers room totals given)
         references_refused f = row_goes _ _ l (row_goes _ _ o (row_stops _ _ f)) ∙ goes
 
-        pub none_refused : wrong_references numbers given ≡ false → refusal_at 0 0 ≡ first_of (power_call_rows w readings numbers room totals given)
+        pub none_refused : wrong_references numbers given ≡ false → accepted ≡ first_of (power_call_rows w readings numbers room totals given)
         none_refused f = row_goes _ _ l (row_goes _ _ o (row_goes _ _ f rows_end)) ∙ goes
+
+pub ruleset guard_laws = (book_refused, list_refused, output_refused, references_refused, none_refused)

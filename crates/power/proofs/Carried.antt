@@ -2,11 +2,19 @@
 -- the event of a turn.
 -- Assumes nothing.
 use Prim.Native.Nat.{ℕ, suc, ◌+◌, ◌*◌, ◌<◌}
+use mathlib.Core.Bool.{Bool, true, false}
 use mathlib.Core.List.{List}
-use mathlib.Core.Path.{◌≡◌, sym, ap, ◌∙◌}
+use mir.Val.{bool_byte}
+use Rattle.laws.specs.Answer.{bit}
+use mathlib.Core.Path.{◌≡◌, refl, sym, ap, ◌∙◌}
 use native.Mathlib.Numerals.{add-one}
 use lib.ListN.{length}
 use lib.Seq.{sets}
+use Rattle.energy.proofs.PaperLaws.{event_settled}
+use Rattle.energy.specs.Event.{event_paper}
+use Rattle.energy.specs.declared.events.Unsettled.{Unsettled}
+use Rattle.std.specs.Prelude.{Result}
+use Rattle.std.specs.Result.{is_ok}
 use Rattle.laws.proofs.RowLaws.{Filled, filled_none, filled_next}
 use Rattle.laws.proofs.SumLaws.{sum_none, sum_next}
 use Rattle.laws.specs.Sums.{sum_to}
@@ -14,8 +22,7 @@ use Rattle.notices.specs.Notices.{notice_at}
 use Rattle.notices.specs.declared.notices.Notice.{Notice}
 use Rattle.power.specs.Lines.{power_line_numbers, power_line, power_line_at, reduction_at, settled_one, settled_at}
 use Rattle.power.specs.Ready.{AllReady}
-use Rattle.power.specs.Reduced.{reference_at, reduced_of, reduced_at}
-use Rattle.power.specs.declared.events.Reduced.{Reduced}
+use Rattle.power.specs.Reduced.{Reduced, reference_at, reduced_of, reduced_at}
 use Rattle.power.proofs.LineLaws.{line_wide}
 
 pub record Carried (events : ℕ → Reduced) (came : List ℕ) (n : ℕ) (out : List ℕ) (sum settled k : ℕ) : Type 0 where
@@ -32,6 +39,15 @@ pub event_at_lem : (book list references : List ℕ) (k reference : ℕ) (m : No
     → r ≡ reduced_of book reference m → r ≡ reduced_at book list references k
 unfolding reduced_at
 event_at_lem book list references k reference m r a b e = e ∙ rw (a, b)
+
+-- a test as the code counts it
+pub one_is : (b : Bool) → bool_byte b ≡ bit b
+one_is true = refl
+one_is false = refl
+
+-- and of a settled event
+pub one : (e : Result ℕ Unsettled) {b : Bool} → b ≡ is_ok e → bool_byte b ≡ settled_one (event_paper e)
+one e {b} q = one_is b ∙ rw (q, event_settled e)
 
 module _ (book list references : List ℕ) {came : List ℕ} {n : ℕ} {out : List ℕ} {sum settled k : ℕ}
     (h : Carried (reduced_at book list references) came n out sum settled k) (ready : AllReady list references (length came) n) (lt : k < n) where

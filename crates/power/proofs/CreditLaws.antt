@@ -57,3 +57,5 @@ module _ (sum count : ℕ) where
         by (suc n) e =
             let some : count ≡ 0 → ⊥ = λ (z : count ≡ 0). omega (arith, e) in
             no_more (credit_of sum count) (credit_nearest some) (omega (arith, e))
+
+pub ruleset credit_laws = (credit_none, credit_is, exact_fits)

@@ -16,17 +16,21 @@ use Rattle.book.proofs.SumLaws.{sum_same}
 use Rattle.book.specs.Length.{most_readings}
 use Rattle.book.specs.Places.{InDay, hour_place, run}
 use Rattle.book.specs.Readings.{reading_at, first_fault, sum_over}
-use Rattle.energy.proofs.Unsettled.{fault_small}
+use Rattle.energy.proofs.WhyUnsettled.{fault_small}
+use Rattle.energy.proofs.PaperLaws.{event_energy}
+use Rattle.energy.specs.Event.{event_paper}
 use Rattle.energy.specs.Line.{by_fault}
+use Rattle.energy.specs.declared.events.Unsettled.{Unsettled}
+use Rattle.std.specs.Prelude.{Result}
+use Rattle.std.specs.Result.{result_unwrap_or}
 use Rattle.laws.proofs.Every.{Every, imply, map_of}
 use Rattle.laws.specs.Answer.{bit}
 use Rattle.notices.specs.Notices.{notice_at, hours_of}
 use Rattle.notices.specs.declared.notices.Notice.{Notice}
 use Rattle.power.specs.Lines.{settled_one}
 use Rattle.power.specs.Ready.{Ready, largest_reduction}
-use Rattle.power.specs.Reduced.{needed_of, spared_by, event_of, reduction_of, reduced_of, reference_at, reduced_at}
+use Rattle.power.specs.Reduced.{Reduced, needed_of, spared_by, event_of, reduction_of, reduced_of, reference_at, reduced_at}
 use Rattle.power.specs.Refusals.{largest_reference}
-use Rattle.power.specs.declared.events.Reduced.{Reduced}
 use Rattle.power.proofs.HourShares.{fault_energy, over_hours, fault_reduction}
 
 -- what an event at most comes to
@@ -52,10 +56,10 @@ module _ (book : List ℕ) (reference : ℕ) (n : Notice) where
   unfolding event_of spared_by
   event_is from to drawn hours f t d h = rw (d, h, f, t, needed_run n)
 
-  pub reduced_is : (hours : ℕ) → hours ≡ hours_of n
-      → record { event = event_of book reference n; reduction = 12 * (event_of book reference n).energy / hours } ≡ reduced_of book reference n
+  pub reduced_is : (e : Result ℕ Unsettled) (energy hours : ℕ) → event_paper e ≡ event_of book reference n → energy ≡ result_unwrap_or e 0
+      → hours ≡ hours_of n → record { event = event_paper e; reduction = 12 * energy / hours } ≡ reduced_of book reference n
   unfolding reduced_of reduction_of
-  reduced_is hours h = rw h
+  reduced_is e energy hours is own h = rw (own, event_energy e, is, h)
 
   module _ (ready : Ready reference n) where
     -- the reference at every hour is not too much
@@ -69,6 +73,9 @@ module _ (book : List ℕ) (reference : ℕ) (n : Notice) where
 
     pub energy_most : (event_of book reference n).energy ≤ 4 * largest_reference
     energy_most = le_trans energy_below (whole_most (hours_of n) refl)
+
+    pub own_most : (e : Result ℕ Unsettled) → event_paper e ≡ event_of book reference n → result_unwrap_or e 0 ≤ 4 * largest_reference
+    own_most e is = rw (event_energy e, is) energy_most
 
     -- and an unsettled event has none
     pub reduction_most : (reduced_of book reference n).reduction ≤ largest_reduction * settled_one (reduced_of book reference n).event
@@ -129,3 +136,7 @@ pub reduced_agrees : (book other : List ℕ) (reference : ℕ) (n : Notice) → 
 unfolding reduced_of event_of spared_by
 reduced_agrees book other reference n a =
     rw (fault_agrees book other (needed_of n) a, sum_same (reading_at book) (reading_at other) (needed_of n) a)
+
+pub ruleset event_laws = (event_is, whole_most)
+
+pub ruleset reduced_laws = (reduced_is, own_most)

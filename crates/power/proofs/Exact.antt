@@ -12,8 +12,7 @@ use Rattle.laws.proofs.Tells.{Tells, table_tells}
 use Rattle.laws.specs.Answer.{Answer}
 use Rattle.laws.specs.Table.{Row, is_refusal}
 use Rattle.power.specs.Refusals.{power_table, power_refusal}
-use Rattle.power.specs.Settlement.{power_settlement, power_written}
-use Rattle.power.specs.declared.call.PowerSettlement.{PowerSettlement}
+use Rattle.power.specs.Settlement.{PowerSettlement, power_settlement, power_written}
 use Rattle.power.proofs.RefusalLaws.{PowerSettles, table_numbered, unrefused_settles, settles_unrefused}
 use Rattle.power.proofs.SettlementLaws.{number_is, settled_accepted, settled_by_lem, written_by_lem}
 

@@ -6,6 +6,7 @@ pub mod EventLaws
 pub mod Exact
 pub mod HourShares
 pub mod LineLaws
+pub mod OneOutcome
 pub mod RateLaws
 pub mod ReferenceLaws
 pub mod RefusalLaws

@@ -15,8 +15,7 @@ use Rattle.laws.specs.Sums.{sum_to}
 use Rattle.notices.specs.Notices.{notice_at}
 use Rattle.power.specs.Lines.{power_line_numbers, power_line_at, power_lines_to, reduction_at, settled_one, settled_at}
 use Rattle.power.specs.Ready.{Ready, AllReady, largest_reduction, MeanFits}
-use Rattle.power.specs.Reduced.{reference_at, reduced_at}
-use Rattle.power.specs.declared.events.Reduced.{Reduced}
+use Rattle.power.specs.Reduced.{Reduced, reference_at, reduced_at}
 use Rattle.power.proofs.EventLaws.{reduction_most}
 
 module _ (events : ℕ → Reduced) where

@@ -19,6 +19,10 @@ use Rattle.laws.specs.Table.{refusal_at, Row, first_of, is_refusal}
 use Rattle.notices.specs.Notices.{count_of}
 use Rattle.notices.specs.Profiles.{figures_of}
 use Rattle.notices.specs.declared.profiles.Profile.TheVariants.{PowerOption}
+use Rattle.refusals.proofs.RuleNumbers.{number_range}
+use Rattle.refusals.specs.Refusals.{rule_number, at, verdict_paper}
+use Rattle.refusals.specs.declared.rule.Rule.{Rule}
+use Rattle.std.specs.Prelude.{Err, ⊤}
 use Rattle.schedule.proofs.Accepted.{Lawful, whole_test, notices_lawful, lawful_notices}
 use Rattle.schedule.proofs.Bounds.{notices_bounded}
 use Rattle.schedule.proofs.RuleLaws.{checked_notices}
@@ -79,6 +83,11 @@ module _ (w readings : ℕ) (l references : List ℕ) (room totals : ℕ) where
             checked_notices w PowerOption l (whole_test (length l) call_is_right.whole call_is_right.few)
             ∙ part_goes references_part notices (unrefused_none references_part (references_numbered references) (ap is_refusal (sym told) ∙ t))
             ∙ part_goes call (references_part ++ notices) own_none
+
+  -- a rule that refuses the call is the refusal, with place 0
+  pub call_refuses : (rule : Rule) → refusal_at (rule_number rule) 0 ≡ first_of call
+      → verdict_paper {A = ⊤} (Err (at rule 0)) ≡ power_refusal w readings l references room totals
+  call_refuses rule e = let some = number_range rule in by_call (rule_number rule) e (λ (z : rule_number rule ≡ 0). omega arith)
 
   -- a settlement that is not refused, and the other way round
   pub unrefused_settles : is_refusal (power_refusal w readings l references room totals) ≡ false → PowerSettles w readings l references room totals

@@ -21,15 +21,17 @@ use Rattle.notices.specs.Notices.{count_of}
 use Rattle.notices.specs.Profiles.{power_option, figures_of}
 use Rattle.notices.specs.declared.notices.Notice.{Notice}
 use Rattle.notices.specs.declared.profiles.Profile.TheVariants.{PowerOption}
+use Rattle.refusals.proofs.RuleNumbers.{refused_is}
+use Rattle.refusals.specs.Refusals.{verdict_paper}
+use Rattle.refusals.specs.declared.refusal.Refusal.{Refusal}
+use Rattle.std.specs.Prelude.{Err, ⊤}
 use Rattle.schedule.proofs.Lawful.{Sound}
-use Rattle.power.specs.Credit.{credit_of}
-use Rattle.power.specs.Lines.{power_line_numbers, power_lines_to, power_lines_in, sums_of}
+use Rattle.power.specs.Lines.{power_line_numbers, power_lines_to, power_lines_in}
 use Rattle.power.specs.Ready.{Ready, AllReady}
 use Rattle.power.specs.Reduced.{reduced_at}
 use Rattle.power.specs.Refusals.{total_numbers, largest_reference, power_call_rows, power_refusal}
-use Rattle.power.specs.Settlement.{power_refused_with, power_totals_of, power_settled_by, power_written_by, power_settlement, power_written}
-use Rattle.power.specs.declared.call.PowerSettlement.{PowerSettlement}
-use Rattle.power.specs.declared.lines.Sums.{Sums}
+use Rattle.power.specs.Settlement.{PowerSettlement, power_paper, power_refused_with, power_totals_of}
+use Rattle.power.specs.Settlement.{power_settled_by, power_written_by, power_settlement, power_written}
 use Rattle.power.proofs.RefusalLaws.{PowerSettles, by_call, refusal_room, refusal_bounded}
 
 -- a notice that keeps its own rules has three or four hours of a day of the book
@@ -57,13 +59,6 @@ settles_ready s =
       as_many = s.as_many;
       each = λ k h. sound_ready (s.list.each k h) (s.low k (omega (arith, s.as_many)));
     }
-
--- the totals, by the sums over the lines
-pub totals_are : (book l references : List ℕ) (sums : Sums) → sums ≡ sums_of (reduced_at book l references) (count_of l)
-    → (cents : ℕ) → cents ≡ credit_of sums.sum sums.settled
-    → ◌≡◌ {A = PowerSettlement} (record { number = 0; place = 0; sum = sums.sum; settled = sums.settled; cents = cents })
-    (power_totals_of (reduced_at book l references) (count_of l))
-totals_are book l references sums e cents c = rw (c, e)
 
 module _ (w : ℕ) (book l references : List ℕ) (room totals : ℕ) where
   abbrev refusal : Answer
@@ -100,22 +95,22 @@ module _ (w : ℕ) (book l references : List ℕ) (room totals : ℕ) where
       by true q = rw (settled_by_lem q) (refusal_bounded w (length book) l references room totals)
       by false q = rw (settled_accepted q) (omega arith, omega arith)
 
-  -- a refusal that is told by number and place
-  module _ (number place : ℕ) (e : refusal_at number place ≡ refusal) where
-    pub told_refused : (number ≡ 0 → ⊥) → is_refusal refusal ≡ true
-    told_refused f = rw (← e, ne_eqb number 0 f)
+  -- what is refused is answered by the refusal
+  module _ (r : Refusal) (said : verdict_paper {A = ⊤} (Err r) ≡ refusal) where
+    pub refused_lem : is_refusal refusal ≡ true
+    refused_lem = rw (← said) (refused_is r.rule r.place)
 
-    pub told_settled : (number ≡ 0 → ⊥) → power_refused_with number place ≡ power_settlement w book l references room totals
-    told_settled f = sym (settled_by_lem (told_refused f) ∙ rw (← e) refl)
-
-    pub told_accepted : number ≡ 0 → is_refusal refusal ≡ false
-    told_accepted z = rw (← e, z)
+    pub refused_answer : power_paper (Err r) ≡ power_settlement w book l references room totals
+    refused_answer = sym (settled_by_lem refused_lem ∙ rw (← said) refl)
 
   -- a call that its winter or lengths refuse
   pub call_refused : (number : ℕ) → refusal_at number 0 ≡ first_of (power_call_rows w (length book) (length l) room totals (length references))
       → (number ≡ 0 → ⊥)
       → power_refused_with number 0 ≡ power_settlement w book l references room totals
-  call_refused number e f = told_settled number 0 (by_call w (length book) l references room totals number e f) f
+  call_refused number e f =
+      let is = by_call w (length book) l references room totals number e f in
+      let refused : is_refusal refusal ≡ true = rw (← is, ne_eqb number 0 f) in
+      sym (settled_by_lem refused ∙ rw (← is) refl)
 
   -- of the rooms only that they are large enough counts
   pub settled_room : (other more : ℕ) → power_line_numbers * count_of l ≤ room → power_line_numbers * count_of l ≤ other → total_numbers ≤ totals

@@ -1,11 +1,11 @@
 -- The lines of a medium-power settlement, four numbers a notice, and the sums over them.
 -- Assumes nothing.
 use Rattle.std.specs.Prelude.{ℕ, List, [], ◌∷◌, eqb}
-use Rattle.energy.specs.declared.events.Event.{Event}
+use Rattle.energy.specs.Event.{Event}
 use Rattle.laws.specs.Answer.{bit}
 use Rattle.laws.specs.Rows.{rows_to, rows_over}
 use Rattle.laws.specs.Sums.{sum_to}
-use Rattle.power.specs.declared.events.Reduced.{Reduced}
+use Rattle.power.specs.Reduced.{Reduced}
 use Rattle.power.specs.declared.lines.Sums.{Sums}
 
 abbrev pub power_line_numbers : ℕ

@@ -4,10 +4,18 @@ use Rattle.std.specs.Prelude.{ℕ, ◌-◌, ◌*◌, ◌/◌, List, get_or}
 use Rattle.book.specs.Places.{run, places_of}
 use Rattle.book.specs.Readings.{reading_at, first_fault, sum_over}
 use Rattle.energy.specs.Line.{by_fault}
-use Rattle.energy.specs.declared.events.Event.{Event}
+use Rattle.energy.specs.Event.{Event, event_paper}
 use Rattle.notices.specs.Notices.{notice_at, hours_of}
 use Rattle.notices.specs.declared.notices.Notice.{Notice}
-use Rattle.power.specs.declared.events.Reduced.{Reduced}
+use Rattle.power.specs.declared.events.Reduced as told
+
+-- an event and its reduction, on paper, and those of the code
+pub record Reduced : Type 0 where
+  pub event : Event
+  pub reduction : ℕ
+
+abbrev pub reduced_paper : told.Reduced → Reduced
+reduced_paper r = record { event = event_paper r.event; reduction = r.reduction }
 
 -- rule 11.2: the places of the needed readings, by the notice alone
 unfoldable pub needed_of : Notice → List ℕ

@@ -5,56 +5,31 @@ ghost use Rattle.power.specs.Lines.{power_lines_in};
 ghost use Rattle.power.specs.Ready.{AllReady};
 ghost use Rattle.power.specs.Reduced.{reduced_at};
 ghost use Rattle.power.specs.Refusals.{total_numbers};
-ghost use Rattle.power.specs.Settlement.{power_refused_with, power_totals_of, power_settlement, power_written};
+ghost use Rattle.power.specs.Settlement.{power_paper, totals_in, power_settlement, power_written};
 
-use crate::lines::put_lines;
+use crate::guards::refusal_of;
+use crate::lines::{Sums, put_lines};
 use crate::rates::credit_of;
-use crate::refusals::refusal_of;
+use refusals::Refusal;
 
-// What a medium-power settlement answers: the refusal number and place, 0 if it is accepted; and all reductions added up, how many events
-// are settled and the cents of the credit, 0 if it is refused.
-#[derive(Clone, Copy)]
-pub struct PowerSettlement {
-    pub number: u32,
-    pub place: u32,
+// All reductions of a winter added up, how many events are settled, and the cents of the credit.
+#[derive(Clone, Copy, Debug, PartialEq, Eq)]
+pub struct PowerTotals {
     pub sum: u64,
     pub settled: u64,
     pub cents: u64,
 }
 
-// A refused settlement.
-fn refused_with(number: u32, place: u32) -> PowerSettlement
-    ensures { result ≡ power_refused_with number place }
-{
-    PowerSettlement {
-        number,
-        place,
-        sum: 0,
-        settled: 0,
-        cents: 0,
-    }
-}
-
 // Puts the lines of an accepted list and gives the totals. The mean is over the settled events, which are not all.
-fn settle_accepted(
-    book: &[u32],
-    list: &[u32],
-    references: &[u32],
-    out: &mut [u64],
-) -> PowerSettlement
+fn settle_accepted(book: &[u32], list: &[u32], references: &[u32], out: &mut [u64]) -> PowerTotals
     requires { AllReady list.now references.now (length out.old) (count_of list.now) }
-    ensures value { result ≡ power_totals_of (reduced_at book.now list.now references.now) (count_of list.now) }
+    ensures value { result ≡ totals_in (reduced_at book.now list.now references.now) (count_of list.now) }
     ensures out_after { out.new ≡ power_lines_in (reduced_at book.now list.now references.now)
         (count_of list.now) out.old }
 {
-    let count = notices::count_in(list.len());
-    let sums = put_lines(book, list, references, out, count);
-    let sum = sums.sum;
-    let settled = sums.settled;
+    let Sums { sum, settled } = put_lines(book, list, references, out);
     let cents = credit_of(sum, settled);
-    PowerSettlement {
-        number: 0,
-        place: 0,
+    PowerTotals {
         sum,
         settled,
         cents,
@@ -69,13 +44,10 @@ pub fn settle(
     list: &[u32],
     references: &[u32],
     out: &mut [u64],
-) -> PowerSettlement
-    ensures value { result ≡ power_settlement winter book.now list.now references.now (length out.old) total_numbers }
+) -> Result<PowerTotals, Refusal>
+    ensures value { power_paper result ≡ power_settlement winter book.now list.now references.now (length out.old) total_numbers }
     ensures out_after { out.new ≡ power_written winter book.now list.now references.now out.old total_numbers }
 {
-    let refusal = refusal_of(winter, book.len(), list, references, out.len());
-    if refusal.number != 0 {
-        return refused_with(refusal.number, refusal.place);
-    }
-    settle_accepted(book, list, references, out)
+    refusal_of(winter, book.len(), list, references, out.len())?;
+    Ok(settle_accepted(book, list, references, out))
 }

@@ -3,11 +3,11 @@
 
 mod call;
 mod events;
+mod guards;
 mod lines;
 mod rates;
-mod refusals;
 
-pub use call::{PowerSettlement, settle};
+pub use call::{PowerTotals, settle};
 pub use events::Reduced;
+pub use guards::{TOTAL_NUMBERS, call_refusal};
 pub use lines::{LINE_NUMBERS, MOST_LINE_NUMBERS};
-pub use refusals::{TOTAL_NUMBERS, call_refusal};

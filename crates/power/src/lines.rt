@@ -1,12 +1,11 @@
 // The lines of a medium-power settlement.
-ghost use Rattle.std.specs.Prelude.{◌≡◌, [], ◌∷◌, ◌+◌, ◌≤◌, length};
-ghost use Rattle.std.proofs.lemmas.List.Edits.{sets};
-ghost use Rattle.power.specs.Lines.{power_line_numbers, power_line, settled_one, sums_of, power_lines_in};
+ghost use Rattle.std.specs.Prelude.{◌≡◌, length};
+ghost use Rattle.notices.specs.Notices.{count_of};
+ghost use Rattle.power.specs.Lines.{sums_of, power_lines_in};
 ghost use Rattle.power.specs.Ready.{AllReady};
 ghost use Rattle.power.specs.Reduced.{reduced_at};
 
-use crate::events::{Reduced, reduced_of};
-use energy::Event;
+use crate::events::reduced_of;
 
 // How many numbers a line has: code, place, energy and reduction.
 pub const LINE_NUMBERS: usize = 4;
@@ -21,50 +20,23 @@ pub(crate) struct Sums {
     pub settled: u64,
 }
 
-// Puts the four numbers of a line from index `at` on.
-fn put_line(out: &mut [u64], at: usize, r: Reduced)
-    requires { at + power_line_numbers ≤ length out.old }
-    ensures { out.new ≡ sets out.old at (power_line r) }
-{
-    let event = r.event;
-    out[at] = event.code as u64;
-    out[at + 1] = event.place as u64;
-    out[at + 2] = event.energy;
-    out[at + 3] = r.reduction;
-}
-
-// 1 for an event that is settled, and 0 for any other.
-fn settled_one(event: Event) -> u64
-    ensures { result ≡ settled_one event }
-{
-    if event.code == 0 {
-        return 1;
-    }
-    0
-}
-
-// Puts the lines of the first n notices, and gives the sum of their reductions and how many of them are settled.
-pub(crate) fn put_lines(
-    book: &[u32],
-    list: &[u32],
-    references: &[u32],
-    out: &mut [u64],
-    n: usize,
-) -> Sums
-    requires { AllReady list.now references.now (length out.old) n }
-    ensures value { result ≡ sums_of (reduced_at book.now list.now references.now) n }
-    ensures out_after { out.new ≡ power_lines_in (reduced_at book.now list.now references.now) n out.old }
+// Puts the lines of an accepted list, each notice with its reference, and gives the sum of their reductions and how many of them are settled.
+pub(crate) fn put_lines(book: &[u32], list: &[u32], references: &[u32], out: &mut [u64]) -> Sums
+    requires { AllReady list.now references.now (length out.old) (count_of list.now) }
+    ensures value { result ≡ sums_of (reduced_at book.now list.now references.now) (count_of list.now) }
+    ensures out_after { out.new ≡ power_lines_in (reduced_at book.now list.now references.now) (count_of list.now) out.old }
 {
     let mut sum: u64 = 0;
     let mut settled: u64 = 0;
-    let mut k: usize = 0;
-    while k < n {
-        let r = reduced_of(book, references[k], notices::notice_at(list, k));
-        put_line(out, LINE_NUMBERS * k, r);
-        let one = settled_one(r.event);
+    // By an index into the output, and by itself beside credit's walk, for that one's reasons; its lines are of another event.
+    for (k, &reference) in references.iter().enumerate() {
+        let r = reduced_of(book, reference, notices::notice_at(list, k));
+        let [code, place, energy] = energy::line_numbers(r.event);
+        let at = LINE_NUMBERS * k;
+        let line = [code, place, energy, r.reduction];
+        out[at..at + LINE_NUMBERS].copy_from_slice(&line);
         sum += r.reduction;
-        settled += one;
-        k += 1;
+        settled += u64::from(r.event.is_ok());
     }
     Sums { sum, settled }
 }

@@ -4,7 +4,18 @@ ghost use Rattle.power.specs.Credit.{credit_of};
 ghost use Rattle.power.specs.Rates.{rate_of};
 ghost use Rattle.power.specs.Ready.{MeanFits};
 
+// The rows of rule 11.8's table above its first: up to and with so many kW, so many thousandths of a dollar a kW; and the rate above them all.
+const RATES: [(u64, u64); 4] = [
+    (199, 66_690),
+    (599, 61_560),
+    (1_199, 56_430),
+    (1_799, 51_300),
+];
+
+const LAST_RATE: u64 = 46_170;
+
 // The rate of a power, in thousandths of a dollar a kW: the table of rule 11.8, row by row. A kW is 12,000 twelfths of a W for each event.
+#[tactic(auto, using(crate::proofs::RateLaws::rate_laws))]
 fn rate_of(sum: u64, count: u64) -> u64
     requires { MeanFits sum count }
     ensures { result ≡ rate_of sum count }
@@ -13,22 +24,16 @@ fn rate_of(sum: u64, count: u64) -> u64
     if sum < 15 * kilowatt {
         return 0;
     }
-    if sum <= 199 * kilowatt {
-        return 66_690;
+    for &(last, rate) in &RATES {
+        if sum <= last * kilowatt {
+            return rate;
+        }
     }
-    if sum <= 599 * kilowatt {
-        return 61_560;
-    }
-    if sum <= 1_199 * kilowatt {
-        return 56_430;
-    }
-    if sum <= 1_799 * kilowatt {
-        return 51_300;
-    }
-    46_170
+    LAST_RATE
 }
 
 // The credit in cents: the rate covers the whole power, and the one rounding is of the exact fraction (rule 11.9).
+#[tactic(auto, using(crate::proofs::CreditLaws::credit_laws))]
 pub(crate) fn credit_of(sum: u64, count: u64) -> u64
     requires { MeanFits sum count }
     ensures { result ≡ credit_of sum count }

@@ -7,7 +7,7 @@ use mathlib.Core.Path.{◌≡◌, ap}
 use native.Mathlib.Omega.{arith}
 use lib.ListN.{length}
 use Rattle.power.proofs.SettlementLaws.{number_is, settled_accepted, settlement_bounded}
-use Rattle.power.specs.declared.call.PowerSettlement.{PowerSettlement}
+use Rattle.power.specs.Settlement.{PowerSettlement}
 use Rattle.wire.specs.Decoded.{decoded}
 use Rattle.power_boundary.specs.PowerCalls.{power_lines_over, totals_over, power_settled, power_call, power_bytes, total_bytes}
 use Rattle.power_boundary.proofs.PowerLaws.{over_refused, totals_refused, over_accepted, totals_accepted}

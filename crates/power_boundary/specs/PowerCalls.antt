@@ -5,8 +5,7 @@ use Rattle.notices.specs.Notices.{count_of}
 use Rattle.power.specs.Lines.{power_line_numbers, power_lines_to}
 use Rattle.power.specs.Reduced.{reduced_at}
 use Rattle.power.specs.Refusals.{total_numbers}
-use Rattle.power.specs.Settlement.{power_settlement}
-use Rattle.power.specs.declared.call.PowerSettlement.{PowerSettlement}
+use Rattle.power.specs.Settlement.{PowerSettlement, power_settlement}
 use Rattle.wire.specs.Bytes.{bytes_over}
 use Rattle.wire.specs.Decoded.{decoded}
 use Rattle.boundary.specs.Calls.{packed}

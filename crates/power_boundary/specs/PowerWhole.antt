@@ -5,8 +5,7 @@ use Rattle.book.specs.Length.{most_readings}
 use Rattle.notices.specs.Notices.{most_notices, longest_list, count_in, count_of}
 use Rattle.power.specs.Lines.{power_line_numbers}
 use Rattle.power.specs.Refusals.{total_numbers}
-use Rattle.power.specs.Settlement.{power_settlement}
-use Rattle.power.specs.declared.call.PowerSettlement.{PowerSettlement}
+use Rattle.power.specs.Settlement.{PowerSettlement, power_settlement}
 use Rattle.power_boundary.specs.PowerCalls.{packed_power, power_over, power_totals}
 
 -- there is room for the numbers, and for lines and totals in the outputs

@@ -44,3 +44,5 @@ pub all_printed : (bytes out : List ℕ) {cannot : Bool} → cannot ≡ false
     → (printed_count cannot bytes ≡ length bytes) × (printed cannot bytes out ≡ bytes ++ drop (length bytes) out)
 unfolding printed printed_count
 all_printed bytes out e = rw e (refl, refl)
+
+pub ruleset room_laws = (has_room, printed_nothing, printed_front)

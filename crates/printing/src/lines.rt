@@ -6,7 +6,8 @@ ghost use Rattle.numerals.specs.Put.{Put};
 ghost use Rattle.printing.specs.Room.{line_room};
 ghost use Rattle.printing.specs.Sheet.{numbers_at, notice_line, notice_lines};
 
-// The numbers of the line of the notice at index k: its own, and those that the settlement's lines hold of it.
+// The numbers of the line of the notice at index k: its own, and those that the settlement's lines hold of it. List and lines stay two parameters, read
+// at an index, down from `print_statement`, to which they are lent so: a line has four numbers where a notice has three.
 fn numbers_at(list: &[u32], lines: &[u64], k: usize) -> [u64; 7]
     requires { line_numbers * k + line_numbers ≤ length lines.now }
     ensures { result ≡ numbers_at list.now lines.now k }
@@ -14,9 +15,9 @@ fn numbers_at(list: &[u32], lines: &[u64], k: usize) -> [u64; 7]
     let notice = notices::notice_at(list, k);
     let at = credit::LINE_NUMBERS * k;
     [
-        notice.day as u64,
-        notice.start as u64,
-        notice.end as u64,
+        u64::from(notice.day),
+        u64::from(notice.start),
+        u64::from(notice.end),
         lines[at],
         lines[at + 1],
         lines[at + 2],
@@ -41,10 +42,8 @@ pub(crate) fn put_lines(out: &mut [u8], at: usize, list: &[u32], lines: &[u64], 
     ensures upper_bound { result ≤ at + line_room * n }
 {
     let mut next = at;
-    let mut k: usize = 0;
-    while k < n {
+    for k in 0..n {
         next = put_notice(out, next, list, lines, k);
-        k += 1;
     }
     next
 }

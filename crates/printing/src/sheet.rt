@@ -8,13 +8,15 @@ ghost use Rattle.printing.specs.Room.{cannot_print, printed, printed_count};
 ghost use Rattle.printing.specs.Sheet.{refused_bytes, statement_bytes};
 
 use crate::lines::put_lines;
+use credit::Totals;
 use numerals::put_line;
 
 // Whether some notices cannot be printed. Divided on both sides, so that no length is too large.
+#[tactic(auto, unfolding(crate::specs::Room::cannot_print))]
 fn cannot_print(notices: usize, numbers: usize, room: usize) -> bool
     ensures { result ≡ cannot_print notices numbers room }
 {
-    (numbers / credit::LINE_NUMBERS < notices) | (room / 152 <= notices)
+    numbers / credit::LINE_NUMBERS < notices || room / 152 <= notices
 }
 
 // Puts the line of a refused text at the front of the output.
@@ -39,13 +41,13 @@ fn put_head(out: &mut [u8], winter: u64, price: u64, notices: u64) -> usize
 }
 
 // Puts total energy and total cents.
-fn put_totals(out: &mut [u8], at: usize, energy: u64, cents: u64) -> usize
+fn put_totals(out: &mut [u8], at: usize, totals: Totals) -> usize
     requires { at + 55 ≤ length out.old }
-    ensures put { Put out.old at (bytes_of_lines (line "energy=" (energy ∷ []) ∷ line "total=" (cents ∷ []) ∷ [])) result out.new }
+    ensures put { Put out.old at (bytes_of_lines (line "energy=" (totals.energy ∷ []) ∷ line "total=" (totals.cents ∷ []) ∷ [])) result out.new }
     ensures upper_bound { result ≤ at + 55 }
 {
-    let last = put_line(out, at, b"energy=", &[energy]);
-    put_line(out, last, b"total=", &[cents])
+    let last = put_line(out, at, b"energy=", &[totals.energy]);
+    put_line(out, last, b"total=", &[totals.cents])
 }
 
 // Puts a statement that has room.
@@ -54,22 +56,23 @@ fn put_statement(
     price: u32,
     list: &[u32],
     lines: &[u64],
-    energy: u64,
-    cents: u64,
+    totals: Totals,
     out: &mut [u8],
 ) -> usize
     requires { (line_numbers * count_of list.now ≤ length lines.now) × (152 * count_of list.now + 152 ≤ length out.old) }
-    ensures put { Put out.old 0 (statement_bytes winter price list.now lines.now energy cents) result out.new }
+    ensures put { Put out.old 0 (statement_bytes winter price list.now lines.now totals.energy totals.cents) result out.new }
     ensures upper_bound { result ≤ length out.old }
 {
     let count = notices::count_in(list.len());
-    let first = put_head(out, winter as u64, price as u64, count as u64);
+    let first = put_head(out, u64::from(winter), u64::from(price), count as u64);
     let past = put_lines(out, first, list, lines, count);
-    put_totals(out, past, energy, cents)
+    put_totals(out, past, totals)
 }
 
 // Prints the line of a refused text at the front of the output, and answers how many bytes it has; 0, and nothing is written, where the output
 // has fewer than 152 bytes.
+// A number and a place, not a refusal: any numbers are printed, as the contract says, also such as no rule has.
+#[tactic(auto, using(crate::proofs::RoomLaws::room_laws))]
 pub fn print_refusal(number: u32, place: u64, out: &mut [u8]) -> usize
     ensures value { result ≡ printed_count (cannot_print 0 0 (length out.old)) (refused_bytes number place) }
     ensures out_after { out.new ≡ printed (cannot_print 0 0 (length out.old)) (refused_bytes number place) out.old }
@@ -77,27 +80,27 @@ pub fn print_refusal(number: u32, place: u64, out: &mut [u8]) -> usize
     if cannot_print(0, 0, out.len()) {
         return 0;
     }
-    put_refusal(out, number as u64, place)
+    put_refusal(out, u64::from(number), place)
 }
 
 // Prints the statement of a settlement at the front of the output, and answers how many bytes it has; 0, and nothing is written, where the
 // settlement has fewer than four numbers a notice or the output fewer than 152 bytes a notice and 152 more.
+#[tactic(auto, using(crate::proofs::RoomLaws::room_laws))]
 pub fn print_statement(
     winter: u32,
     price: u32,
     list: &[u32],
     lines: &[u64],
-    energy: u64,
-    cents: u64,
+    totals: Totals,
     out: &mut [u8],
 ) -> usize
     ensures value { result ≡ printed_count (cannot_print (count_of list.now) (length lines.now) (length out.old))
-        (statement_bytes winter price list.now lines.now energy cents) }
+        (statement_bytes winter price list.now lines.now totals.energy totals.cents) }
     ensures out_after { out.new ≡ printed (cannot_print (count_of list.now) (length lines.now) (length out.old))
-        (statement_bytes winter price list.now lines.now energy cents) out.old }
+        (statement_bytes winter price list.now lines.now totals.energy totals.cents) out.old }
 {
     if cannot_print(notices::count_in(list.len()), lines.len(), out.len()) {
         return 0;
     }
-    put_statement(winter, price, list, lines, energy, cents, out)
+    put_statement(winter, price, list, lines, totals, out)
 }

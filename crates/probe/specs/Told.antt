@@ -1,13 +1,13 @@
 -- An answer as C is told it, in one number: the refusal number, 0 if there is none, and values.
 -- Assumes nothing.
-use Rattle.std.specs.Prelude.{ℕ, ◌+◌, ◌*◌, cond, List, [], ◌∷◌, get_or}
+use Rattle.std.specs.Prelude.{ℕ, ◌+◌, ◌*◌, cond, List, [], ◌∷◌, get_or, Err}
 use Rattle.book.specs.Part.{day_readings}
 use Rattle.calendar.specs.WinterOf.{winter_of}
 use Rattle.calendar.specs.declared.answers.Winter.{Winter}
 use Rattle.dates.specs.Winters.{no_winter}
 use Rattle.energy.specs.Line.{EventAnswer, line_paper}
-use Rattle.energy.specs.declared.call.Line.TheVariants.{NoWinter}
 use Rattle.laws.specs.Answer.{Answer, refusal, refuse}
+use Rattle.refusals.specs.declared.rule.Rule.TheVariants.{NoWinter}
 
 -- the first two values, each 2 ^ 16 times as high as the next
 abbrev pub packed : List ℕ → ℕ
@@ -36,7 +36,7 @@ of_year y f = refuse (no_winter y) (refusal 1) (f (winter_of y))
 
 -- the same of an event
 unfoldable pub event_of_year : ℕ → (Winter → EventAnswer) → EventAnswer
-event_of_year y f = cond (no_winter y) (line_paper NoWinter) (f (winter_of y))
+event_of_year y f = cond (no_winter y) (line_paper (Err NoWinter)) (f (winter_of y))
 
 unfoldable pub part_of : ℕ → List ℕ → ℕ → List ℕ
 part_of y book d = cond (no_winter y) [] (day_readings (winter_of y) book d)

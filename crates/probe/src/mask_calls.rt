@@ -11,27 +11,27 @@ pub extern "C" fn probe_mask(list: &[u32], day: usize) -> u32
     ensures { result ≡ get_or (masks_of list.now) day 0 }
 {
     let masks = event_hours::masks_of(list);
-    if 152 <= day {
-        return 0;
-    }
-    masks[day]
+    masks.get(day).copied().unwrap_or(0)
 }
 
-// The first hour of the event that the masks hold on a day, in the band of an hour.
+// The event that the masks hold on a day, in the band of an hour.
+fn event_from(list: &[u32], day: u32, start: u32) -> Notice
+    ensures { result ≡ event_on (masks_of list.now) (record { day = day; start = start; end = start }) }
+{
+    let asked = Notice {
+        day,
+        start,
+        end: start,
+    };
+    event_hours::event_on(&event_hours::masks_of(list), asked)
+}
+
+// Its first hour.
 #[unsafe(no_mangle)]
 pub extern "C" fn probe_event_start(list: &[u32], day: u32, start: u32) -> u32
     ensures { result ≡ (event_on (masks_of list.now) (record { day = day; start = start; end = start })).start }
 {
-    let masks = event_hours::masks_of(list);
-    let event = event_hours::event_on(
-        &masks,
-        Notice {
-            day,
-            start,
-            end: start,
-        },
-    );
-    event.start
+    event_from(list, day, start).start
 }
 
 // Its end.
@@ -39,14 +39,5 @@ pub extern "C" fn probe_event_start(list: &[u32], day: u32, start: u32) -> u32
 pub extern "C" fn probe_event_end(list: &[u32], day: u32, start: u32) -> u32
     ensures { result ≡ (event_on (masks_of list.now) (record { day = day; start = start; end = start })).end }
 {
-    let masks = event_hours::masks_of(list);
-    let event = event_hours::event_on(
-        &masks,
-        Notice {
-            day,
-            start,
-            end: start,
-        },
-    );
-    event.end
+    event_from(list, day, start).end
 }

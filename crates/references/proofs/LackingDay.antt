@@ -5,19 +5,19 @@ use Prim.Native.Nat.{ℕ, ◌+◌, ◌-◌, ◌≤◌, ◌<◌}
 use mathlib.Core.Bool.{Bool, true, false, not, cond, ◌&&◌, ◌||◌}
 use mathlib.Core.List.{List, [], ◌∷◌, ◌++◌}
 use mathlib.Core.Logic.{◌⊎◌, inl, inr}
-use mathlib.Core.Path.{◌≡◌, refl, ◌∙◌}
+use mathlib.Core.Path.{◌≡◌, refl, sym, ◌∙◌}
 use native.Mathlib.Omega.{arith}
 use lib.Dec.{leb, ltb, eqb}
-use borrow.Author.Tests.{eqb-true, eqb-false, ne_eqb, leb-true, ltb-true, ltb-false}
+use borrow.Author.Tests.{eqb-true, eqb-false, leb-true, ltb-true, ltb-false}
+use Rattle.std.specs.Option.{option_eq}
+use Rattle.std.specs.Prelude.{Option, Some, None}
 use Rattle.book.proofs.RunLaws.{run_each, run_more, run_split}
 use Rattle.book.specs.Places.{run}
-use Rattle.calendar.proofs.Answered.{forward_on}
+use Rattle.calendar.proofs.Answered.{forward_known}
 use Rattle.calendar.proofs.ClockLaws.{forward_sunday, every_hour, other_hour, no_hour}
 use Rattle.calendar.specs.Answers.{change_paper, forward_day}
 use Rattle.calendar.specs.Clocks.{clocks_forward, passed_hour, has_hour}
 use Rattle.calendar.specs.Days.{wrong_winter, march_eighth}
-use Rattle.calendar.specs.declared.answers.Change.TheVariants.{On}
-use Rattle.calendar.specs.declared.answers.Change.{Change}
 use Rattle.calendar.specs.declared.answers.Winter.{Winter}
 use Rattle.laws.proofs.Every.{Every, all, imply}
 use Rattle.laws.proofs.Guards.{both, neither}
@@ -87,15 +87,15 @@ module _ (w : Winter) (day s : ℕ) where
       by false p true q z = inr (inl (ltb-true (passed_hour + 5) s q))
       by false p false q z = inr (inr (leb-true day (march_eighth w.days) z))
 
-  -- the day that lacks one as the code finds it: none, or by the calendar's answer r
-  pub lacking_none : none_lacks w day s ≡ true → w.days ≡ lacking_day w day s
+  -- the day that lacks one as the code finds it: none, or the calendar's answer r
+  pub lacking_none : none_lacks w day s ≡ true → None ≡ lacking_day w day s
   unfolding lacking_day
   lacking_none t = rw t
 
-  pub lacking_sunday : wrong_winter w ≡ false → none_lacks w day s ≡ false → {r : Change} {forward : ℕ} → r ≡ On forward → change_paper r ≡ forward_day w
-      → forward ≡ lacking_day w day s
+  pub lacking_sunday : wrong_winter w ≡ false → none_lacks w day s ≡ false → {r : Option ℕ} → change_paper r ≡ forward_day w
+      → r ≡ lacking_day w day s
   unfolding lacking_day
-  lacking_sunday right t q e = rw t (forward_on w right q e)
+  lacking_sunday right t e = rw t (forward_known w right e)
 
 -- of an event on a later day: that Sunday lacks an hour exactly where the start names it
 module _ (w : Winter) (day s : ℕ) (right : wrong_winter w ≡ false) (later : clocks_forward w < day) where
@@ -127,19 +127,20 @@ module _ (w : Winter) (day s : ℕ) (right : wrong_winter w ≡ false) (later : 
       by false t = named t
 
 -- so a day has the warm-up hours exactly where it is not that one
-pub has_warm_up : (w : Winter) (day s d : ℕ) → BookDay w day → d < day → has_each w d (warm_up w day s) ≡ not (eqb d (lacking_day w day s))
+pub has_warm_up : (w : Winter) (day s d : ℕ) → BookDay w day → d < day
+    → has_each w d (warm_up w day s) ≡ not (option_eq eqb (lacking_day w day s) (Some d))
 unfolding lacking_day
-has_warm_up w day s d book_day earlier = by (eqb d (clocks_forward w)) refl (none_lacks w day s) refl
+has_warm_up w day s d book_day earlier = by (eqb (clocks_forward w) d) refl (none_lacks w day s) refl
   where
-    past_none : eqb d w.days ≡ false
-    past_none = ne_eqb d w.days (λ (e : d ≡ w.days). omega (arith, book_day.there))
+    at_sunday : clocks_forward w ≡ d → has_each w d (warm_up w day s) ≡ none_lacks w day s
+    at_sunday is = rw (← is) (sunday_has w day s book_day.right (omega arith))
 
-    at_sunday : d ≡ clocks_forward w → has_each w d (warm_up w day s) ≡ none_lacks w day s
-    at_sunday is = rw is (sunday_has w day s book_day.right (omega arith))
+    other : eqb (clocks_forward w) d ≡ false → has_each w d (warm_up w day s) ≡ true
+    other e = has_all w d (warm_up w day s) (λ (q : d ≡ clocks_forward w). eqb-false (clocks_forward w) d e (sym q))
 
-    by : (b : Bool) → eqb d (clocks_forward w) ≡ b → (t : Bool) → none_lacks w day s ≡ t
-        → has_each w d (warm_up w day s) ≡ not (eqb d (cond t w.days (clocks_forward w)))
-    by false e true q = rw past_none (has_all w d (warm_up w day s) (eqb-false d (clocks_forward w) e))
-    by false e false q = rw e (has_all w d (warm_up w day s) (eqb-false d (clocks_forward w) e))
-    by true e true q = at_sunday (eqb-true d (clocks_forward w) e) ∙ rw (q, past_none)
-    by true e false q = at_sunday (eqb-true d (clocks_forward w) e) ∙ rw (q, e)
+    by : (b : Bool) → eqb (clocks_forward w) d ≡ b → (t : Bool) → none_lacks w day s ≡ t
+        → has_each w d (warm_up w day s) ≡ not (option_eq eqb (cond t None (Some (clocks_forward w))) (Some d))
+    by false e true q = other e
+    by false e false q = rw e (other e)
+    by true e true q = at_sunday (eqb-true (clocks_forward w) d e) ∙ q
+    by true e false q = rw e (at_sunday (eqb-true (clocks_forward w) d e) ∙ q)

@@ -1,23 +1,26 @@
 -- When a day serves, and how the search that passes over the days that carry an event comes to the reference days: a day that carries an
 -- event serves no other, so that the same days are found.
 -- Assumes nothing.
-use Prim.Native.Nat.{ℕ, zero, suc, ◌+◌, ◌-◌, ◌≤◌, ◌<◌}
+use Prim.Native.Nat.{ℕ, zero, suc, ◌-◌, ◌≤◌, ◌<◌}
 use mathlib.Core.Bool.{Bool, true, false, not, cond, ◌&&◌, beq}
-use mathlib.Core.List.{List}
+use mathlib.Core.List.{List, []}
 use mathlib.Core.Path.{◌≡◌, refl, ◌∙◌}
 use native.Mathlib.Omega.{arith}
 use lib.Dec.{eqb}
-use lib.ListN.{get_or, set, replicate}
+use lib.ListN.{get_or}
 use borrow.Author.Tests.{eq-eqb, ne_eqb}
+use Rattle.std.specs.Option.{option_eq}
+use Rattle.std.specs.Prelude.{Option, Some}
 use Rattle.calendar.specs.Excluded.{excluded}
 use Rattle.calendar.specs.Weekdays.{weekend}
+use Rattle.calendar.specs.declared.answers.Kind.{Kind}
 use Rattle.calendar.specs.declared.answers.Winter.{Winter}
 use Rattle.references.specs.ReferenceDays.{free_in, has_each, serves, before, reference_days}
-use Rattle.references.specs.Search.{past_events, lacking_day, free_serves, BookDay}
+use Rattle.references.specs.Search.{past_events, lacking_day, free_serves, BookDay, OnDay}
 use Rattle.references.specs.WarmUp.{warm_up}
 use Rattle.references.proofs.LackingDay.{has_warm_up}
-use Rattle.references.proofs.PastEvents.{past_free, past_le}
-use Rattle.references.proofs.SearchLaws.{Search, GoesOn, before_no, search_start, search_took, search_passed}
+use Rattle.references.proofs.PastEvents.{past_free, past_le, onward_here, onward_next, onward_none}
+use Rattle.references.proofs.SearchLaws.{Search, before_no, search_start}
 
 -- a day is free exactly where its mask is 0
 pub zero_free : (masks : List ℕ) (d : ℕ) → get_or masks d 0 ≡ 0 → free_in masks d ≡ true
@@ -27,6 +30,8 @@ zero_free masks d e = eq-eqb (get_or masks d 0) 0 e
 pub nonzero_event : (masks : List ℕ) (d : ℕ) → (get_or masks d 0 ≡ 0 → ⊥) → free_in masks d ≡ false
 unfolding free_in
 nonzero_event masks d e = ne_eqb (get_or masks d 0) 0 e
+
+pub ruleset past_laws = (onward_here, onward_next, onward_none, zero_free, nonzero_event)
 
 module _ (w : Winter) (free : ℕ → Bool) (day s : ℕ) where
   has_event : (d : ℕ) → free d ≡ false → serves w free day s d ≡ false
@@ -44,9 +49,15 @@ module _ (w : Winter) (free : ℕ → Bool) (day s : ℕ) where
       rw (t, has_warm_up w day s d book_day earlier) (and_true (beq (weekend w d) (weekend w day)))
     where
       and_true : (b : Bool)
-          → (b && not (excluded w d) && not (eqb d (lacking_day w day s))) ≡ (b && true && not (excluded w d) && not (eqb d (lacking_day w day s)))
+          → (b && not (excluded w d) && not (option_eq eqb (lacking_day w day s) (Some d)))
+          ≡ (b && true && not (excluded w d) && not (option_eq eqb (lacking_day w day s) (Some d)))
       and_true true = refl
       and_true false = refl
+
+  -- as the search tests it
+  pub tested : {event : Kind} {lacking : Option ℕ} {b : Bool} → OnDay w day event → lacking ≡ lacking_day w day s → (d : ℕ) → d < day → free d ≡ true
+      → b ≡ free_serves w event.weekend lacking d → b ≡ serves w free day s d
+  tested on_day is d earlier t e = rw (is, on_day.week) at e ∙ free_day on_day.day d earlier t
 
   before_past : (d : ℕ) → before (serves w free day s) d ≡ before (serves w free day s) (past_events free d)
   unfolding past_events
@@ -59,27 +70,20 @@ module _ (w : Winter) (free : ℕ → Bool) (day s : ℕ) where
       by false t rest = before_no (serves w free day s) d (has_event d t) ∙ rest
 
   -- where the search for the reference days stands: past the days right before d that carry an event
-  pub record Walk (days : List ℕ) (count d : ℕ) : Type 0 where
+  pub record Walk (found : List ℕ) (d : ℕ) : Type 0 where
     pub within : d ≤ day
-    pub search : Search (serves w free day s) (reference_days w free day s) days count d
+    pub search : Search (serves w free day s) (reference_days w free day s) found d
     pub next_free : 0 < d → free (d - 1) ≡ true
 
   -- on from d, to which the search has come
-  walk_on : (days : List ℕ) (count d : ℕ) → d ≤ day → Search (serves w free day s) (reference_days w free day s) days count d
-      → Walk days count (past_events free d)
-  walk_on days count d h found = record {
+  pub walk_on : (found : List ℕ) (d : ℕ) → d ≤ day → Search (serves w free day s) (reference_days w free day s) found d
+      → Walk found (past_events free d)
+  walk_on found d h at = record {
     within = omega (arith, past_le free d);
-    search = record { room = found.room; size = found.size; rest = rw (before_past d) at found.rest; zeros = found.zeros };
+    search = record { room = at.room; rest = rw (before_past d) at at.rest };
     next_free = past_free free d;
   }
 
-  pub walk_start : Walk (replicate 5 0) 0 (past_events free day)
+  pub walk_start : Walk [] (past_events free day)
   unfolding reference_days
-  walk_start = walk_on (replicate 5 0) 0 day (omega arith) (search_start (serves w free day s) day)
-
-  module _ (days : List ℕ) (count d : ℕ) (on : GoesOn count d) (walk : Walk days count d) where
-    pub walk_took : serves w free day s (d - 1) ≡ true → Walk (set days count (d - 1)) (count + 1) (past_events free (d - 1))
-    walk_took t = walk_on _ _ (d - 1) (omega (arith, walk.within)) (search_took _ _ days count d on t walk.search)
-
-    pub walk_passed : serves w free day s (d - 1) ≡ false → Walk days count (past_events free (d - 1))
-    walk_passed t = walk_on _ _ (d - 1) (omega (arith, walk.within)) (search_passed _ _ days count d on t walk.search)
+  walk_start = walk_on [] day (omega arith) (search_start (serves w free day s) day)

@@ -1,7 +1,8 @@
 -- How the code walks over days that carry an event, and what its private functions ask of a day. To believe the public contract it need
 -- not be read.
 -- Assumes nothing.
-use Rattle.std.specs.Prelude.{ℕ, zero, suc, ◌+◌, ◌<◌, Bool, false, not, cond, ◌&&◌, ◌||◌, ◌≡◌, leb, ltb, eqb}
+use Rattle.std.specs.Prelude.{ℕ, zero, suc, ◌+◌, ◌<◌, Bool, false, not, cond, ◌&&◌, ◌||◌, ◌≡◌, leb, ltb, eqb, Option, Some, None}
+use Rattle.std.specs.Option.{option_eq}
 use Rattle.std.specs.Bool.{beq}
 use Rattle.calendar.specs.Clocks.{clocks_forward, passed_hour}
 use Rattle.calendar.specs.Days.{wrong_winter, in_period, march_eighth}
@@ -20,13 +21,13 @@ past_events free (suc d) = cond (free d) (suc d) (past_events free d)
 unfoldable pub none_lacks : Winter → ℕ → ℕ → Bool
 none_lacks w day s = ltb s (passed_hour + 3) || ltb (passed_hour + 5) s || leb day (march_eighth w.days)
 
--- the day that lacks one; where none does, the day behind the book's last
-unfoldable pub lacking_day : Winter → ℕ → ℕ → ℕ
-lacking_day w day s = cond (none_lacks w day s) w.days (clocks_forward w)
+-- the day that lacks one, if any does
+unfoldable pub lacking_day : Winter → ℕ → ℕ → Option ℕ
+lacking_day w day s = cond (none_lacks w day s) None (Some (clocks_forward w))
 
--- whether a day that carries no event serves an event on a weekend day or on a weekday, where one day lacks a warm-up hour
-unfoldable pub free_serves : Winter → Bool → ℕ → ℕ → Bool
-free_serves w onWeekend lacking d = beq (weekend w d) onWeekend && not (excluded w d) && not (eqb d lacking)
+-- whether a day that carries no event serves an event on a weekend day or on a weekday, where one day may lack a warm-up hour
+unfoldable pub free_serves : Winter → Bool → Option ℕ → ℕ → Bool
+free_serves w onWeekend lacking d = beq (weekend w d) onWeekend && not (excluded w d) && not (option_eq eqb lacking (Some d))
 
 -- what the private functions ask of a day: it is a day of the winter's book
 pub record BookDay (w : Winter) (d : ℕ) : Type 0 where

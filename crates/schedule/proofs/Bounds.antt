@@ -15,9 +15,10 @@ use Rattle.laws.specs.Table.{Row, row, first_of}
 use Rattle.notices.specs.Notices.{count_of}
 use Rattle.notices.specs.Profiles.{named}
 use Rattle.notices.specs.declared.profiles.Figures.{Figures}
+use Rattle.refusals.specs.Refusals.{number_of, place_of, verdict_paper}
+use Rattle.refusals.specs.declared.refusal.Refusal.{Refusal}
+use Rattle.std.specs.Prelude.{⊤, Result}
 use Rattle.schedule.specs.ListCheck.{day_rows, list_rows, notice_rows, rows_at, notices_table, bad_list, no_profile, named_figures, check_table, check_answer}
-use Rattle.schedule.specs.Verdicts.{number_of, place_of, verdict_paper}
-use Rattle.schedule.specs.declared.verdicts.Verdict.{Verdict}
 use Rattle.schedule.proofs.Walk.{list_fits}
 
 module _ (w : ℕ) (f : Figures) (l : List ℕ) where
@@ -41,6 +42,6 @@ check_bounded w l q =
     (λ t. notices_bounded w f l t.1.1.0)
 
 -- the same of a verdict
-pub verdict_bounded : (w q : ℕ) (l : List ℕ) (v : Verdict) → verdict_paper v ≡ check_answer w q l
+pub verdict_bounded : (w q : ℕ) (l : List ℕ) (v : Result ⊤ Refusal) → verdict_paper v ≡ check_answer w q l
     → (number_of v ≤ largest_number) × (place_of v ≤ largest_place)
 verdict_bounded w q l v e = subst Bounded (sym e) (check_bounded w l q)

@@ -5,7 +5,6 @@ pub mod LentLaws
 pub mod NoticeRows
 pub mod PassedAll
 pub mod RuleLaws
-pub mod RuleNumbers
 pub mod Standing
 pub mod Together
 pub mod Walk

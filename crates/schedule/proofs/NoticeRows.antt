@@ -2,14 +2,14 @@
 -- rules before the others.
 -- Assumes nothing.
 use Prim.Native.Nat.{ℕ, ◌+◌, ◌≤◌}
-use mathlib.Core.Bool.{true, false}
-use mathlib.Core.List.{List, ◌∷◌, ◌++◌}
+use mathlib.Core.Bool.{false}
+use mathlib.Core.List.{List, ◌∷◌}
 use mathlib.Core.Path.{◌≡◌, ap, sym, ◌∙◌}
 use native.Mathlib.Omega.{arith}
 use borrow.Author.Tests.{ltb-false}
 use Rattle.calendar.specs.declared.answers.Winter.{Winter}
 use Rattle.laws.proofs.Every.{left, right, joined}
-use Rattle.laws.proofs.Tables.{Numbered, NoneBroken, unrefused_none, part_stops, part_goes}
+use Rattle.laws.proofs.Tables.{Numbered, NoneBroken, accepted_none, unrefused_none, part_stops, part_goes, row_stops, row_goes, rows_end}
 use Rattle.laws.specs.Answer.{Answer}
 use Rattle.laws.specs.Table.{Row, row, first_of, is_refusal}
 use Rattle.notices.proofs.HourLaws.{hours_kept}
@@ -19,7 +19,11 @@ use Rattle.notices.specs.Notices.{hours_of}
 use Rattle.notices.specs.Sane.{most_hours, Sane}
 use Rattle.notices.specs.declared.notices.Notice.{Notice}
 use Rattle.notices.specs.declared.profiles.Figures.{Figures}
-use Rattle.schedule.specs.ListCheck.{day_rows, list_rows, notice_rows}
+use Rattle.refusals.proofs.RuleNumbers.{refused_is}
+use Rattle.refusals.specs.Refusals.{rule_paper}
+use Rattle.refusals.specs.declared.rule.Rule.{Rule}
+use Rattle.std.specs.Prelude.{⊤, Ok, Err, Result}
+use Rattle.schedule.specs.ListCheck.{day_rows, list_rows, hours_on_rows, notice_rows}
 use Rattle.schedule.specs.Rules.{outside_period, on_excluded_day, barred_weekend, starts_before, same_band, over_limit}
 use Rattle.schedule.specs.declared.rules.Sofar.{Sofar}
 
@@ -82,15 +86,18 @@ module _ (w : Winter) (f : Figures) (so : Sofar) (n : Notice) (ok : Sane f) (t :
   unfolding over_limit
   sum_fits = omega (arith, ltb-false f.hours (so.hours + hours_of n) t.limit, ok.hours)
 
--- the parts of a notice's rules: its day's first, then those of its hours, then its length and those of the list
+-- the parts of a notice's rows: its day's first, then those of its hours, then its length and those of the list
 
-module _ (w : Winter) (f : Figures) (so : Sofar) (n : Notice) (k : ℕ) {a : Answer} (day : a ≡ first_of (day_rows w f n k)) where
-  pub day_stops : is_refusal a ≡ true → a ≡ first_of (notice_rows w f so n k)
+module _ (w : Winter) (f : Figures) (so : Sofar) (n : Notice) (k : ℕ) {v : Result ⊤ Rule} (day : rule_paper v k ≡ first_of (day_rows w f n k)) where
+  pub day_stops : (rule : Rule) → v ≡ Err rule → rule_paper v k ≡ first_of (notice_rows w f so n k)
   unfolding notice_rows
-  day_stops e = day ∙ part_stops (day_rows w f n k) (hour_rows f n k ++ length_on f so n k) (ap is_refusal (sym day) ∙ e)
+  day_stops rule e = day ∙ part_stops (day_rows w f n k) (hours_on_rows f so n k) (ap is_refusal (sym day) ∙ rw e (refused_is rule k))
 
-  pub day_goes : {b : Answer} → is_refusal a ≡ false → b ≡ first_of (hour_rows f n k ++ length_on f so n k) → b ≡ first_of (notice_rows w f so n k)
+  pub day_goes : v ≡ Ok tt → {a : Answer} → a ≡ first_of (hours_on_rows f so n k) → a ≡ first_of (notice_rows w f so n k)
   unfolding notice_rows
   day_goes e q =
-      q ∙ part_goes (day_rows w f n k) (hour_rows f n k ++ length_on f so n k)
-      (unrefused_none (day_rows w f n k) (day_numbered w f n k) (ap is_refusal (sym day) ∙ e))
+      q ∙ part_goes (day_rows w f n k) (hours_on_rows f so n k)
+      (accepted_none (day_rows w f n k) (day_numbered w f n k) (sym day ∙ ap (λ (v : Result ⊤ Rule). rule_paper v k) e))
+
+-- a table row by row
+pub ruleset row_by_row = (row_stops, row_goes, rows_end)

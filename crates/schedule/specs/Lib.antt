@@ -1,4 +1,3 @@
 pub mod Rules
 pub mod ListCheck
-pub mod Verdicts
 pub mod Walkable

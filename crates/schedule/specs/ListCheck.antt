@@ -1,6 +1,6 @@
 -- The list check: its table of rules, in the order in which they are tried (rules 4.20 and 4.21).
 -- Assumes nothing.
-use Rattle.std.specs.Prelude.{ℕ, zero, suc, ◌+◌, ◌%◌, Bool, true, false, not, ◌||◌, List, [], ◌∷◌, ◌++◌, ltb, eqb, length}
+use Rattle.std.specs.Prelude.{ℕ, zero, suc, ◌+◌, ◌%◌, Bool, true, false, not, ◌||◌, Ok, Err, Result, List, [], ◌∷◌, ◌++◌, ltb, eqb, length}
 use Rattle.calendar.specs.Days.{wrong_winter}
 use Rattle.calendar.specs.WinterOf.{winter_of}
 use Rattle.calendar.specs.declared.answers.Winter.{Winter}
@@ -14,10 +14,9 @@ use Rattle.notices.specs.Notices.{notice_numbers, longest_list, count_of, no_not
 use Rattle.notices.specs.Profiles.{figures_of, named}
 use Rattle.notices.specs.declared.notices.Notice.{Notice}
 use Rattle.notices.specs.declared.profiles.Figures.{Figures}
-use Rattle.notices.specs.declared.profiles.Named.TheVariants.{Is, NoProfile}
-use Rattle.notices.specs.declared.profiles.Named.{Named}
 use Rattle.notices.specs.declared.profiles.Profile.TheVariants.{Credit}
 use Rattle.notices.specs.declared.profiles.Profile.{Profile}
+use Rattle.refusals.specs.declared.rule.Rule.{Rule}
 use Rattle.schedule.specs.Rules.{outside_period, on_excluded_day, barred_weekend, starts_before, same_band, over_limit}
 use Rattle.schedule.specs.declared.rules.Sofar.{Sofar}
 
@@ -37,9 +36,13 @@ list_rows f so n k =
     ∷ row 18 k (over_limit f so n)
     ∷ []
 
--- all its rules, in their order (rule 4.20): its day, its hours, its length, and the others
+-- its rules past those of its day: its hours, its length, and the others
+abbrev pub hours_on_rows : Figures → Sofar → Notice → ℕ → List Row
+hours_on_rows f so n k = hour_rows f n k ++ (row 14 k (bad_length f n) ∷ list_rows f so n k)
+
+-- all its rules, in their order (rule 4.20)
 unfoldable pub notice_rows : Winter → Figures → Sofar → Notice → ℕ → List Row
-notice_rows w f so n k = day_rows w f n k ++ (hour_rows f n k ++ (row 14 k (bad_length f n) ∷ list_rows f so n k))
+notice_rows w f so n k = day_rows w f n k ++ hours_on_rows f so n k
 
 -- the last event so far and the hours so far: before the first notice none, and after a notice this one and its hours too (rule 4.20)
 abbrev pub nothing_before : Sofar
@@ -64,14 +67,14 @@ unfoldable pub bad_list : ℕ → Bool
 bad_list length = not (eqb (length % notice_numbers) 0) || ltb longest_list length
 
 -- rule 4.7: 5, no profile is named so
-abbrev pub no_profile : Named → Bool
-no_profile (Is p) = false
-no_profile NoProfile = true
+abbrev pub no_profile : Result Profile Rule → Bool
+no_profile (Ok p) = false
+no_profile (Err rule) = true
 
 -- the figures of the profile that is named; where none is, number 5 is given before a figure counts
-abbrev pub named_figures : Named → Figures
-named_figures (Is p) = figures_of p
-named_figures NoProfile = figures_of Credit
+abbrev pub named_figures : Result Profile Rule → Figures
+named_figures (Ok p) = figures_of p
+named_figures (Err rule) = figures_of Credit
 
 -- the whole table, and the first row of it that is broken (rule 4.21)
 unfoldable pub check_table : ℕ → ℕ → List ℕ → List Row

@@ -11,7 +11,7 @@ use lib.Seq.{drop_at}
 use Rattle.calendar.specs.WinterOf.{winter_of}
 use Rattle.energy.specs.Asked.{asked_by}
 use Rattle.energy.specs.Line.{line_of}
-use Rattle.energy.specs.declared.events.Event.{Event}
+use Rattle.energy.specs.Event.{Event}
 use Rattle.event_hours.specs.Days.{masks_of}
 use Rattle.laws.proofs.RowLaws.{rows_long}
 use Rattle.laws.proofs.SumLaws.{run_same, run_first}

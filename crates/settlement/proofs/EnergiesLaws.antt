@@ -12,11 +12,14 @@ use Rattle.laws.specs.Answer.{Answer}
 use Rattle.laws.specs.Table.{refusal_at, first_of, is_refusal}
 use Rattle.laws.specs.Bounds.{largest_number, largest_place}
 use Rattle.notices.specs.Notices.{count_of}
+use Rattle.refusals.proofs.RuleNumbers.{refused_is}
+use Rattle.refusals.specs.Refusals.{verdict_paper}
+use Rattle.refusals.specs.declared.refusal.Refusal.{Refusal}
+use Rattle.std.specs.Prelude.{Err, ⊤}
 use Rattle.settlement.specs.Events.{event_at}
 use Rattle.settlement.specs.Lines.{line_numbers, lines_to, lines_in}
 use Rattle.settlement.specs.Refusals.{call_rows, refusal_of}
-use Rattle.settlement.specs.Energies.{refused_with, total_of, answered_by, written_by, energies_of, energies_written}
-use Rattle.settlement.specs.declared.call.Spared.{Spared}
+use Rattle.settlement.specs.Energies.{Spared, spared_paper, refused_with, total_of, answered_by, written_by, energies_of, energies_written}
 use Rattle.settlement.proofs.RefusalLaws.{refusal_call, refusal_room, refusal_bounded}
 
 module _ (w : ℕ) (book l : List ℕ) (room : ℕ) where
@@ -47,16 +50,21 @@ module _ (w : ℕ) (book l : List ℕ) (room : ℕ) where
       by true q = rw (refused_by q) (refusal_bounded w (length book) l room)
       by false q = rw (answer_accepted q) (omega arith, omega arith)
 
+  -- what is refused is answered by the refusal
+  module _ (r : Refusal) (said : verdict_paper {A = ⊤} (Err r) ≡ refusal) where
+    pub refused_lem : is_refusal refusal ≡ true
+    refused_lem = rw (← said) (refused_is r.rule r.place)
+
+    pub refused_answer : spared_paper (Err r) ≡ energies_of w book l room
+    refused_answer = sym (refused_by refused_lem ∙ rw (← said) refl)
+
   -- a call that its winter or its lengths refuse
-  module _ (number : ℕ) (e : refusal_at number 0 ≡ first_of (call_rows w (length book) (length l) room)) (f : number ≡ 0 → ⊥) where
-    refusal_is : refusal_at number 0 ≡ refusal
-    refusal_is = refusal_call w (length book) l room number e f
-
-    pub is_refused_lem : is_refusal refusal ≡ true
-    is_refused_lem = rw (← refusal_is, ne_eqb number 0 f)
-
-    pub call_refused : refused_with number 0 ≡ energies_of w book l room
-    call_refused = sym (refused_by is_refused_lem ∙ rw (← refusal_is) refl)
+  pub call_refused : (number : ℕ) → refusal_at number 0 ≡ first_of (call_rows w (length book) (length l) room) → (number ≡ 0 → ⊥)
+      → refused_with number 0 ≡ energies_of w book l room
+  call_refused number e f =
+      let is = refusal_call w (length book) l room number e f in
+      let refused : is_refusal refusal ≡ true = rw (← is, ne_eqb number 0 f) in
+      sym (refused_by refused ∙ rw (← is) refl)
 
   -- of the output's length only its room for the lines counts
   pub answer_room_lem : (other : ℕ) → line_numbers * count_of l ≤ room → line_numbers * count_of l ≤ other
@@ -68,10 +76,6 @@ module _ (w : ℕ) (book l out : List ℕ) where
   pub written_by_lem : is_refusal (refusal_of w (length book) l (length out)) ≡ true → energies_written w book l out ≡ out
   unfolding energies_written written_by
   written_by_lem e = rw e
-
-  pub call_unwritten : (number : ℕ) → refusal_at number 0 ≡ first_of (call_rows w (length book) (length l) (length out)) → (number ≡ 0 → ⊥)
-      → out ≡ energies_written w book l out
-  call_unwritten number e f = sym (written_by_lem (is_refused_lem w book l (length out) number e f))
 
   pub written_accepted : is_refusal (refusal_of w (length book) l (length out)) ≡ false
       → energies_written w book l out ≡ lines_in (event_at w book l) (count_of l) out

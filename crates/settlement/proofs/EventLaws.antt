@@ -3,7 +3,7 @@
 -- Assumes nothing.
 use Prim.Native.Nat.{ℕ, ◌≤◌, ◌<◌}
 use mathlib.Core.List.{List}
-use mathlib.Core.Path.{◌≡◌, ap}
+use mathlib.Core.Path.{◌≡◌, refl, ap}
 use lib.ListN.{length}
 use Rattle.book.specs.Length.{book_length}
 use Rattle.calendar.specs.WinterOf.{winter_of}
@@ -12,7 +12,9 @@ use Rattle.dates.specs.Winters.{days}
 use Rattle.energy.proofs.CallLaws.{event_given}
 use Rattle.energy.proofs.EventLaws.{answer_most}
 use Rattle.energy.specs.Asked.{asked_by}
-use Rattle.energy.specs.Line.{line_of, EventAnswer, event_answer}
+use Rattle.energy.specs.Line.{line_of, EventAnswer, line_paper, event_answer}
+use Rattle.energy.specs.Event.{event_paper}
+use Rattle.energy.specs.declared.events.Unsettled.{Unsettled}
 use Rattle.references.specs.ReferenceDays.{free_in}
 use Rattle.event_hours.proofs.OwnHours.{event_back}
 use Rattle.event_hours.specs.Days.{masks_of}
@@ -22,10 +24,18 @@ use Rattle.notices.specs.Notices.{count_of, notice_at}
 use Rattle.notices.specs.Profiles.{figures_of}
 use Rattle.notices.specs.declared.notices.Notice.{Notice}
 use Rattle.notices.specs.declared.profiles.Profile.TheVariants.{Credit}
+use Rattle.refusals.specs.declared.rule.Rule.{Rule}
+use Rattle.std.specs.Prelude.{Ok, Err, Result}
+use Rattle.std.specs.Result.{result_unwrap_or}
 use Rattle.schedule.proofs.Lawful.{Sound}
 use Rattle.notices.specs.declared.profiles.Figures.{Figures}
 use Rattle.schedule.proofs.Standing.{Standing}
 use Rattle.settlement.specs.Events.{event_at, event_in, energy_at}
+
+-- what stands for the event of a line: none where it is refused
+pub event_or_none : (r : Result (Result ℕ Unsettled) Rule) → event_paper (result_unwrap_or r (Ok 0)) ≡ (line_paper r).event
+event_or_none (Ok event) = refl
+event_or_none (Err rule) = refl
 
 pub energies_bounded : (w : Winter) (book masks l : List ℕ) (k : ℕ) → energy_at (event_in w book masks l) k ≤ largest_energy
 unfolding event_in

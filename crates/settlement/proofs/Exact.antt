@@ -17,10 +17,9 @@ use Rattle.notices.specs.Notices.{count_of}
 use Rattle.notices.specs.Profiles.{figures_of}
 use Rattle.notices.specs.declared.profiles.Profile.TheVariants.{Credit}
 use Rattle.schedule.proofs.Accepted.{Lawful}
-use Rattle.settlement.specs.Energies.{energies_of, energies_written}
+use Rattle.settlement.specs.Energies.{Spared, energies_of, energies_written}
 use Rattle.settlement.specs.Lines.{line_numbers}
 use Rattle.settlement.specs.Refusals.{energies_table, refusal_of}
-use Rattle.settlement.specs.declared.call.Spared.{Spared}
 use Rattle.settlement.proofs.CallLaws.{RightCall}
 use Rattle.settlement.proofs.EnergiesLaws.{number_is, answer_accepted, refused_by, written_by_lem}
 use Rattle.settlement.proofs.RefusalLaws.{table_numbered, unrefused_right, list_lawful, right_accepted}

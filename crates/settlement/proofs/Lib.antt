@@ -4,6 +4,7 @@ pub mod CallGuards
 pub mod CallLaws
 pub mod RefusalLaws
 pub mod EnergiesLaws
+pub mod OneOutcome
 pub mod WayLaws
 pub mod Exact
 pub mod Demands

@@ -10,7 +10,7 @@ use Rattle.laws.proofs.SumLaws.{sum_same, sum_bounded}
 use Rattle.laws.specs.Bounds.{largest_energy}
 use Rattle.laws.specs.Sums.{sum_to}
 use Rattle.notices.specs.Notices.{most_notices}
-use Rattle.energy.specs.declared.events.Event.{Event}
+use Rattle.energy.specs.Event.{Event}
 use Rattle.settlement.specs.Events.{energy_at}
 use Rattle.settlement.specs.Lines.{line_numbers, line_at, lines_to}
 use Rattle.settlement.specs.Printed.{code_in, place_in, energy_in, event_told}

@@ -5,6 +5,7 @@ use Prim.Native.Nat.{ℕ, ◌*◌, ◌≤◌}
 use mathlib.Core.Bool.{false}
 use mathlib.Core.List.{List, [], ◌∷◌, ◌++◌, append_assoc}
 use mathlib.Core.Path.{◌≡◌, refl, sym, ap, ◌∙◌}
+use native.Mathlib.Omega.{arith}
 use lib.Dec.{ltb}
 use lib.ListN.{length}
 use borrow.Author.Tests.{le-ltb}
@@ -18,6 +19,10 @@ use Rattle.laws.specs.Table.{refusal_at, Row, row, first_of, is_refusal}
 use Rattle.notices.specs.Notices.{count_of}
 use Rattle.notices.specs.Profiles.{figures_of}
 use Rattle.notices.specs.declared.profiles.Profile.TheVariants.{Credit}
+use Rattle.refusals.proofs.RuleNumbers.{number_range}
+use Rattle.refusals.specs.Refusals.{rule_number, at, verdict_paper}
+use Rattle.refusals.specs.declared.rule.Rule.{Rule}
+use Rattle.std.specs.Prelude.{Err, ⊤}
 use Rattle.schedule.proofs.Accepted.{Lawful, whole_test, notices_lawful, lawful_notices}
 use Rattle.schedule.proofs.Bounds.{notices_bounded}
 use Rattle.schedule.proofs.RuleLaws.{checked_notices}
@@ -59,6 +64,10 @@ module _ (w readings : ℕ) (l : List ℕ) (room : ℕ) where
     refusal_notices z =
         let right = call_is_right z in
         checked_notices w Credit l (whole_test (length l) right.whole right.few) ∙ right_refusal right
+
+  -- a rule that refuses the call is the refusal, with place 0
+  pub call_refuses : (rule : Rule) → refusal_at (rule_number rule) 0 ≡ first_of call → verdict_paper {A = ⊤} (Err (at rule 0)) ≡ refusal_of w readings l room
+  call_refuses rule e = let some = number_range rule in refusal_call (rule_number rule) e (λ (z : rule_number rule ≡ 0). omega arith)
 
   -- what is not refused: the call is right, and the list keeps every rule of the winter credit
   module _ (e : is_refusal (refusal_of w readings l room) ≡ false) where

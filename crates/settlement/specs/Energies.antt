@@ -1,19 +1,31 @@
 -- The energies of a winter: what the call answers, and what it leaves in the lent output.
 -- Assumes nothing.
-use Rattle.std.specs.Prelude.{ℕ, ◌*◌, ◌≤◌, cond, List, length, get_or}
+use Rattle.std.specs.Prelude.{ℕ, ◌*◌, ◌≤◌, cond, List, length, get_or, Ok, Err, Result}
 use Rattle.laws.specs.Answer.{Answer}
 use Rattle.laws.specs.Sums.{sum_to}
 use Rattle.laws.specs.Table.{is_refusal}
 use Rattle.notices.specs.Notices.{most_notices, count_of}
-use Rattle.energy.specs.declared.events.Event.{Event}
+use Rattle.energy.specs.Event.{Event}
 use Rattle.settlement.specs.Events.{event_at, energy_at}
 use Rattle.settlement.specs.Lines.{line_numbers, lines_in}
 use Rattle.settlement.specs.Refusals.{refusal_of}
-use Rattle.settlement.specs.declared.call.Spared.{Spared}
+use Rattle.refusals.specs.Refusals.{rule_number}
+use Rattle.refusals.specs.declared.refusal.Refusal.{Refusal}
+
+-- what the call answers on paper: the refusal number and place, 0 if it is accepted, and the total energy, 0 if it is refused
+pub record Spared : Type 0 where
+  pub number : ℕ
+  pub place : ℕ
+  pub energy : ℕ
 
 -- rule 4.2: no total beside a refusal
 abbrev pub refused_with : ℕ → ℕ → Spared
 refused_with number place = record { number = number; place = place; energy = 0 }
+
+-- what the call gives, as this answer
+abbrev pub spared_paper : Result ℕ Refusal → Spared
+spared_paper (Ok energy) = record { number = 0; place = 0; energy = energy }
+spared_paper (Err refusal) = refused_with (rule_number refusal.rule) refusal.place
 
 -- the total, with number and place of an accepted call
 abbrev pub total_of : (ℕ → Event) → ℕ → Spared

@@ -4,7 +4,7 @@ use Rattle.std.specs.Prelude.{ℕ, List}
 use Rattle.calendar.specs.WinterOf.{winter_of}
 use Rattle.calendar.specs.declared.answers.Winter.{Winter}
 use Rattle.energy.specs.Line.{event_answer}
-use Rattle.energy.specs.declared.events.Event.{Event}
+use Rattle.energy.specs.Event.{Event}
 use Rattle.event_hours.specs.Days.{masks_of}
 use Rattle.event_hours.specs.Events.{event_on}
 use Rattle.notices.specs.Notices.{notice_at}

@@ -2,7 +2,7 @@
 -- Assumes nothing.
 use Rattle.std.specs.Prelude.{ℕ, List, [], ◌∷◌}
 use Rattle.laws.specs.Rows.{rows_to, rows_over}
-use Rattle.energy.specs.declared.events.Event.{Event}
+use Rattle.energy.specs.Event.{Event}
 
 abbrev pub line_numbers : ℕ
 line_numbers = 3

@@ -1,40 +1,20 @@
 // The events of a winter's notices.
 ghost use Rattle.std.specs.Prelude.{◌≡◌};
-ghost use Rattle.energy.specs.Line.{settled, line_paper};
+ghost use Rattle.energy.specs.Event.{event_paper};
 ghost use Rattle.settlement.specs.Events.{event_in};
 
 use calendar::Winter;
-use energy::{Event, Line};
+use energy::Event;
 
-// The event of a line that is refused. It is never an accepted list's, and says nothing.
-fn no_event() -> Event
-    ensures { result ≡ settled 0 }
-{
-    Event {
-        code: 0,
-        place: 0,
-        energy: 0,
-    }
-}
-
-// The event of a line.
-fn event_of(line: Line) -> Event
-    ensures { result ≡ (line_paper line).event }
-{
-    match line {
-        Line::Is(event) => event,
-        Line::NoWinter => no_event(),
-        Line::BadBook => no_event(),
-        Line::OutsidePeriod => no_event(),
-        Line::BadHours(_) => no_event(),
-    }
-}
+// What stands for the event of a notice that is refused. It is never an accepted list's, and says nothing.
+const NO_EVENT: Event = Ok(0);
 
 // The event that the notice at index k is, its start and length taken from its day's bits. Where winter, book, masks, list and index make no
 // event it says nothing.
+#[tactic(auto, using(crate::proofs::EventLaws::event_or_none), unfolding(crate::specs::Events::event_in))]
 pub fn event_at(w: Winter, book: &[u32], masks: &[u32; 152], list: &[u32], k: usize) -> Event
-    ensures { result ≡ event_in w book.now masks.now list.now k }
+    ensures { event_paper result ≡ event_in w book.now masks.now list.now k }
 {
     let n = event_hours::event_on(masks, notices::notice_at(list, k));
-    event_of(energy::settle_event(w, book, masks, n))
+    energy::settle_event(w, book, masks, n).unwrap_or(NO_EVENT)
 }

@@ -3,10 +3,10 @@
 
 mod call;
 mod events;
+mod guards;
 mod lines;
-mod refusals;
 
-pub use call::{Spared, energies};
+pub use call::energies;
 pub use events::event_at;
+pub use guards::{call_refusal, short_output};
 pub use lines::{LINE_NUMBERS, MOST_LINE_NUMBERS};
-pub use refusals::call_refusal;

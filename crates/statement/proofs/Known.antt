@@ -1,6 +1,7 @@
 -- What reads do, one after the other, to the bytes that a reader is known to have left.
 -- Assumes nothing.
-use Rattle.std.proofs.Common.{◌≡◌, ℕ, ◌+◌, ◌<◌, ◌≤◌, List, ◌++◌, None, Some, Ok, Err, arith, length, take, ap, ◌∙◌, refl, sym, subst, append_assoc, length-take-le}
+use Rattle.std.proofs.Common.{◌≡◌, ℕ, ◌+◌, ◌<◌, ◌≤◌, List, ◌++◌, None, Some, Ok, Err, length, take, ap, ◌∙◌, refl, sym, subst}
+use Rattle.std.proofs.Common.{arith, append_assoc, length-take-le}
 use Rattle.std.proofs.Math.Seq.{take-append-add}
 use Rattle.std.proofs.lemmas.List.{take-take}
 use Rattle.std.proofs.lemmas.Slice.{take-put_mid}

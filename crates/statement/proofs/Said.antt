@@ -1,6 +1,7 @@
 -- The statement of what was read is that of all that the reader had.
 -- Assumes nothing.
-use Rattle.std.proofs.Common.{◌≡◌, ℕ, ◌≤◌, ◌<◌, Bool, true, false, ltb, List, [], ◌++◌, None, Some, IfSome, arith, length, take, refl, ap, ◌∙◌, sym, subst, append-nil, length-append, ltb-true, ltb-false}
+use Rattle.std.proofs.Common.{◌≡◌, ℕ, ◌≤◌, ◌<◌, Bool, true, false, ltb, List, [], ◌++◌, None, Some, IfSome, length, take, refl, ap, ◌∙◌, sym, subst}
+use Rattle.std.proofs.Common.{arith, append-nil, length-append, ltb-true, ltb-false}
 use Rattle.std.proofs.Math.Seq.{take-append_seam}
 use Rattle.std.specs.declared.option.Option.{Option}
 use Rattle.std.specs.Io.KnownBytes.{Appends, Consumes, IsAtEnd}

@@ -16,18 +16,15 @@ fn read_some<R: Read>(reader: &mut R, buf: &mut [u8]) -> io::Result<usize>
 {
     for _ in 0..u64::MAX {
         match reader.read(buf) {
-            Ok(count) => return Ok(count),
-            Err(e) => {
-                if e.kind() != ErrorKind::Interrupted {
-                    return Err(e);
-                }
-            }
+            Err(e) if e.kind() == ErrorKind::Interrupted => {}
+            result => return result,
         }
     }
     reader.read(buf)
 }
 
-// What was read: how many bytes stand at the front of the buffer, and whether no read failed.
+// What was read: how many bytes stand at the front of the buffer, and whether no read failed. Not a Result: what was read counts also where a
+// read failed (rule 8.18), so that both have a count.
 #[derive(Clone, Copy)]
 struct Front {
     count: usize,
@@ -41,17 +38,18 @@ fn read_front<R: Read>(reader: &mut R, buf: &mut [u8]) -> Front
     ensures end { IsTrue result.whole → result.count < length buf.new → IsAtEnd (R.remaining reader.new) }
 {
     let mut filled = 0;
+    // A `while`: each read says how far it goes, and what reads to the end wants a heap.
     while filled < buf.len() {
-        let Ok(count) = read_some(reader, &mut buf[filled..]) else {
-            return Front {
-                count: filled,
-                whole: false,
-            };
-        };
-        if count == 0 {
-            break;
+        match read_some(reader, &mut buf[filled..]) {
+            Ok(0) => break,
+            Ok(count) => filled += count,
+            Err(_) => {
+                return Front {
+                    count: filled,
+                    whole: false,
+                };
+            }
         }
-        filled += count;
     }
     Front {
         count: filled,

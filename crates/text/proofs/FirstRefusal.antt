@@ -9,6 +9,7 @@ use lib.ListN.{length-replicate}
 use Rattle.book.specs.Length.{book_length}
 use Rattle.book.specs.Values.{missing_mark}
 use Rattle.calendar.specs.WinterOf.{winter_of}
+use Rattle.std.specs.Prelude.{Option}
 use Rattle.credit.proofs.Exact.{accepted_iff_settles}
 use Rattle.credit.specs.Settlement.{settlement}
 use Rattle.dates.specs.Winters.{days}
@@ -25,7 +26,7 @@ use Rattle.text.specs.Refusals.{value_rows, text_table, text_refusal}
 use Rattle.text.specs.Statement.{room_for}
 use Rattle.text.specs.Values.{winter_said, price_said, misplaced_said, no_readings, book_said}
 
-pub values_numbered : (w line p : ℕ) (l : List ℕ) → Numbered (value_rows w line p l)
+pub values_numbered : (w : ℕ) (line : Option ℕ) (p : ℕ) (l : List ℕ) → Numbered (value_rows w line p l)
 unfolding value_rows
 values_numbered w line p l = (omega arith, (omega arith, (omega arith, (omega arith, notices_numbered (winter_of w) (figures_of Credit) l))))
 

@@ -2,13 +2,14 @@
 -- row by row.
 -- Assumes nothing.
 use Prim.Native.Nat.{ℕ, ◌≤◌}
-use mathlib.Core.Bool.{false, not, true≢false}
+use mathlib.Core.Bool.{false, true≢false}
 use mathlib.Core.List.{List}
 use mathlib.Core.Logic.{◌↔◌}
 use mathlib.Core.Path.{◌≡◌, refl, sym, ap, ◌∙◌}
-use lib.Dec.{eqb}
+use Rattle.std.specs.Option.{is_some}
+use Rattle.std.specs.Prelude.{Option, Some, None, Result, Ok, Err}
 use lib.ListN.{length}
-use borrow.Author.Tests.{ltb-false, eqb-true, le-ltb, not-false}
+use borrow.Author.Tests.{ltb-false, le-ltb}
 use Rattle.dates.proofs.Promise.{winter_range}
 use Rattle.dates.specs.Winters.{no_winter, days}
 use Rattle.form.proofs.Converse.{Held, form_written}
@@ -16,8 +17,8 @@ use Rattle.form.proofs.Formed.{form_of_held}
 use Rattle.form.specs.Document.{notices_in}
 use Rattle.form.specs.Form.{form_of, notices_said}
 use Rattle.form.specs.Places.{misplaced_line_in}
-use Rattle.form.specs.declared.whole.Form.TheVariants as form
-use Rattle.form.specs.declared.whole.Form.{Form}
+use Rattle.form.specs.declared.lines.BrokenLine.{BrokenLine}
+use Rattle.form.specs.declared.whole.Shape.{Shape}
 use Rattle.laws.specs.Table.{accepted}
 use Rattle.money.proofs.PriceLaws.{RightPrice, right_price, price_right}
 use Rattle.notices.specs.Profiles.{figures_of}
@@ -31,15 +32,19 @@ use Rattle.text.proofs.HeldValues.{winter_is, price_is, notices_are, line_is}
 pub record TextStands (s : List ℕ) : Type 0 where
   pub short : length s ≤ most_bytes
   pub held : Held s
-  pub placed : misplaced_line_in (days held.document.winter) held.document ≡ 0
+  pub placed : misplaced_line_in (days held.document.winter) held.document ≡ None
   pub price : RightPrice held.document.price
   pub list : Lawful held.document.winter (figures_of Credit) (notices_in held.document.events)
 
+none_is : (line : Option ℕ) → is_some line ≡ false → line ≡ None
+none_is None e = refl
+none_is (Some n) e = absurd (true≢false e)
+
 module _ (s : List ℕ) where
   -- a text whose form is not broken has it
-  whole : (f : Form) → is_broken f ≡ false → form_of s ≡ f → Held s
-  whole (form.Whole f) e q = form_written s f q
-  whole (form.Broken line) e q = absurd (true≢false e)
+  whole : (f : Result Shape BrokenLine) → is_broken f ≡ false → form_of s ≡ f → Held s
+  whole (Ok f) e q = form_written s f q
+  whole (Err b) e q = absurd (true≢false e)
 
   stands : text_refusal s ≡ accepted → TextStands s
   unfolding text_table value_rows
@@ -49,7 +54,7 @@ module _ (s : List ℕ) where
       let d = t.document in
       let values = none.1.1 in
       let winter : no_winter d.winter ≡ false = ap no_winter (sym (winter_is s t)) ∙ values.0 in
-      let line = eqb-true (misplaced_said s) 0 (not-false (eqb (misplaced_said s) 0) values.1.0) in
+      let line = none_is (misplaced_said s) values.1.0 in
       let priced = values.1.1 in
       let listed = priced.1 in
       let lawful = notices_lawful (winter_said s) (figures_of Credit) (notices_said s) values.0 listed.0 listed.1 in
@@ -69,7 +74,7 @@ module _ (s : List ℕ) where
       let l = st.list in
       let winter : no_winter d.winter ≡ false = (winter_range d.winter).1 l.winter in
       let whole_form : is_broken (form_of s) ≡ false = ap is_broken (form_of_held s t).is in
-      let no_line : not (eqb (misplaced_said s) 0) ≡ false = rw (line_is s t winter, st.placed) in
+      let no_line : is_some (misplaced_said s) ≡ false = rw (line_is s t winter, st.placed) in
       (accepted_iff_none s).1 (
         le-ltb most_bytes (length s) st.short,
         (

@@ -13,9 +13,10 @@ use Rattle.book.specs.Values.{missing_mark}
 use Rattle.dates.specs.Winters.{days}
 use Rattle.form.proofs.Formed.{notices_long}
 use Rattle.form.specs.Form.{form_of, notices_said, reads_said}
+use Rattle.form.specs.Lines.{breaks}
+use Rattle.std.specs.Prelude.{Result, Ok}
 use Rattle.form.specs.Places.{book_in}
-use Rattle.form.specs.declared.whole.Form.{Form}
-use Rattle.form.specs.declared.whole.Form.TheVariants as form
+use Rattle.form.specs.declared.lines.BrokenLine.{BrokenLine}
 use Rattle.form.specs.declared.whole.Shape.{Shape}
 use Rattle.laws.proofs.Tables.{row_stops, row_goes}
 use Rattle.laws.specs.Answer.{Answer}
@@ -35,15 +36,15 @@ module _ (s : List ℕ) where
   long_refused h = refusal_told (refusal_at 32 0) _ refl (row_stops _ _ (lt-ltb most_bytes (length s) h))
 
   module _ (h : length s ≤ most_bytes) where
-    pub form_refused : (line : ℕ) → form_of s ≡ form.Broken line → refused_bytes 30 line ≡ statement_of s
+    pub form_refused : (line : ℕ) → form_of s ≡ breaks line → refused_bytes 30 line ≡ statement_of s
     unfolding statement_of text_refusal text_table
     form_refused line e = rw e (refusal_told (refusal_at 30 line) _ refl (row_goes _ _ (le-ltb most_bytes (length s) h) (row_stops _ _ refl)))
 
-    pub past_form : (f : Shape) → form_of s ≡ form.Whole f → shape_bytes f (book_in (reads_said s) (no_readings f.winter)) (notices_said s) ≡ statement_of s
+    pub past_form : (f : Shape) → form_of s ≡ Ok f → shape_bytes f (book_in (reads_said s) (no_readings f.winter)) (notices_said s) ≡ statement_of s
     unfolding statement_of text_refusal text_table values_bytes
     past_form f e =
         let kept : is_broken (form_of s) ≡ false = ap is_broken e in
-        ap (λ (x : Form). shape_bytes (shape_in x) (book_in (reads_said s) (no_readings (shape_in x).winter)) (notices_said s)) (sym e)
+        ap (λ (x : Result Shape BrokenLine). shape_bytes (shape_in x) (book_in (reads_said s) (no_readings (shape_in x).winter)) (notices_said s)) (sym e)
         ∙ ap (λ (a : Answer). told_bytes a (settled_bytes (winter_said s) (book_said s) (price_said s) (notices_said s)))
         (row_goes _ _ (le-ltb most_bytes (length s) h) (row_goes _ _ kept refl))
 
@@ -59,7 +60,7 @@ module _ (s out : List ℕ) where
     answers e p = let q = prints_same p e in rw (le-ltb (length out) answer_room room) (q.count, q.front)
 
     -- from the arrays that the text fills
-    pub by_arrays : length s ≤ most_bytes → (f : Shape) → form_of s ≡ form.Whole f → {list book : List ℕ}
+    pub by_arrays : length s ≤ most_bytes → (f : Shape) → form_of s ≡ Ok f → {list book : List ℕ}
         → list ≡ sets (replicate longest_list 0) 0 (notices_said s)
         → book ≡ book_in (reads_said s) (replicate most_readings missing_mark)
         → PrintsHeld f.events list (shape_bytes f (take (book_length (days f.winter)) book)) out n after

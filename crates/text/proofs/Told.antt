@@ -15,9 +15,10 @@ use Rattle.form.proofs.Formed.{form_of_held}
 use Rattle.form.proofs.PlaceLaws.{book_days_lem}
 use Rattle.form.specs.Document.{Document, notices_in}
 use Rattle.form.specs.Form.{form_of, notices_said}
+use Rattle.form.specs.Lines.{breaks}
+use Rattle.std.specs.Prelude.{Option, Result, Ok, Err}
 use Rattle.form.specs.Places.{book_days, misplaced_line_in}
-use Rattle.form.specs.declared.whole.Form.TheVariants as form
-use Rattle.form.specs.declared.whole.Form.{Form}
+use Rattle.form.specs.declared.lines.BrokenLine.{BrokenLine}
 use Rattle.form.specs.declared.whole.Shape.{Shape}
 use Rattle.laws.proofs.Tables.{row_stops, row_goes}
 use Rattle.laws.proofs.Tells.{Tells, place_in, table_tells}
@@ -41,13 +42,13 @@ pub record TextTold (s : List ℕ) (number place : ℕ) : Type 0 where
   pub by_values : length s ≤ most_bytes → (h : Held s) → Tells (document_rows h.document) number place
 
 -- lines judged by the days of the winter, or of no winter by any number of days, are answered alike
-rows_alike : (w p n m : ℕ) (l : List ℕ) → (no_winter w ≡ false → n ≡ m) → first_of (value_rows w n p l) ≡ first_of (value_rows w m p l)
+rows_alike : (w p : ℕ) (n m : Option ℕ) (l : List ℕ) → (no_winter w ≡ false → n ≡ m) → first_of (value_rows w n p l) ≡ first_of (value_rows w m p l)
 unfolding value_rows
 rows_alike w p n m l same = by (no_winter w) refl
   where
     by : (b : Bool) → no_winter w ≡ b → first_of (value_rows w n p l) ≡ first_of (value_rows w m p l)
     by true e = sym (row_stops _ _ e) ∙ row_stops _ _ e
-    by false e = ap (λ (k : ℕ). first_of (value_rows w k p l)) (same e)
+    by false e = ap (λ (k : Option ℕ). first_of (value_rows w k p l)) (same e)
 
 module _ (s : List ℕ) where
   long_told : most_bytes < length s → refusal_at 32 0 ≡ text_refusal s
@@ -55,11 +56,11 @@ module _ (s : List ℕ) where
   long_told h = row_stops _ _ (lt-ltb most_bytes (length s) h)
 
   module _ (h : length s ≤ most_bytes) where
-    broken_told : (line : ℕ) → form_of s ≡ form.Broken line → refusal_at 30 line ≡ text_refusal s
+    broken_told : (line : ℕ) → form_of s ≡ breaks line → refusal_at 30 line ≡ text_refusal s
     unfolding text_refusal text_table
     broken_told line e = rw e (row_goes _ _ (le-ltb most_bytes (length s) h) (row_stops _ _ refl))
 
-    values_told : (f : Shape) → form_of s ≡ form.Whole f → first_of (value_rows (winter_said s) (misplaced_said s) (price_said s) (notices_said s))
+    values_told : (f : Shape) → form_of s ≡ Ok f → first_of (value_rows (winter_said s) (misplaced_said s) (price_said s) (notices_said s))
         ≡ text_refusal s
     unfolding text_refusal text_table
     values_told f e = row_goes _ _ (le-ltb most_bytes (length s) h) (row_goes _ _ (ap is_broken e) refl)
@@ -75,9 +76,9 @@ module _ (s : List ℕ) where
     no_form_told : (Held s → ⊥) → ((text_refusal s).number ≡ 30) × FirstBrokenLine s (place_in (text_refusal s))
     no_form_told none = by (form_of s) refl
       where
-        by : (f : Form) → form_of s ≡ f → ((text_refusal s).number ≡ 30) × FirstBrokenLine s (place_in (text_refusal s))
-        by (form.Broken line) e = rw (← broken_told line e) (refl, broken_first s line e)
-        by (form.Whole f) e = absurd (none (form_written s f e))
+        by : (f : Result Shape BrokenLine) → form_of s ≡ f → ((text_refusal s).number ≡ 30) × FirstBrokenLine s (place_in (text_refusal s))
+        by (Err b) e = rw (← broken_told b.line e) (refl, broken_first s b.line e)
+        by (Ok f) e = absurd (none (form_written s f e))
 
   pub text_told : TextTold s (text_refusal s).number (place_in (text_refusal s))
   text_told =

@@ -2,20 +2,19 @@
 -- from 1 on, and one for the settlement.
 -- Assumes nothing.
 use Prim.Native.Nat.{ℕ, ◌*◌, ◌≤◌, ◌<◌}
-use mathlib.Core.Bool.{Bool, true, false, not}
+use mathlib.Core.Bool.{Bool, true, false}
 use mathlib.Core.List.{List}
 use mathlib.Core.Path.{◌≡◌, refl, sym, ap, ◌∙◌}
 use native.Mathlib.Omega.{arith}
-use lib.Dec.{eqb}
+use Rattle.std.specs.Option.{is_some}
+use Rattle.std.specs.Prelude.{Option, Some, None}
 use lib.ListN.{length, replicate, length-replicate}
-use borrow.Author.Tests.{ne_eqb}
 use Rattle.calendar.specs.WinterOf.{winter_of}
 use Rattle.credit.proofs.RefusalLaws.{right_refusal}
 use Rattle.credit.proofs.SettlementLaws.{number_is, settled_accepted, settled_by_lem, written_just}
 use Rattle.credit.specs.Lines.{lines_to}
 use Rattle.credit.specs.Refusals.{refusal_of}
-use Rattle.credit.specs.Settlement.{settlement, written}
-use Rattle.credit.specs.declared.call.Settlement.{Settlement}
+use Rattle.credit.specs.Settlement.{Settlement, settlement, written}
 use Rattle.dates.proofs.Promise.{winter_range}
 use Rattle.dates.specs.Winters.{no_winter}
 use Rattle.laws.proofs.Tables.{row_stops, row_goes}
@@ -38,18 +37,18 @@ use Rattle.text.specs.Statement.{room_for, settled_bytes}
 use Rattle.text.proofs.PrintLaws.{prints_same, prints, refusal_told, statement_told}
 
 -- row by row
-module _ (w p : ℕ) (l : List ℕ) (line : ℕ) (book : List ℕ) where
+module _ (w p : ℕ) (l : List ℕ) (line : Option ℕ) (book : List ℕ) where
   pub winter_refused : no_winter w ≡ true → refused_bytes 1 0 ≡ values_bytes w p l line book
   unfolding values_bytes value_rows
   winter_refused e = refusal_told (refusal_at 1 0) _ refl (row_stops _ _ e)
 
   module _ (right : no_winter w ≡ false) where
-    pub misplaced_refused : (line ≡ 0 → ⊥) → refused_bytes 31 line ≡ values_bytes w p l line book
+    pub misplaced_refused : (n : ℕ) → line ≡ Some n → refused_bytes 31 n ≡ values_bytes w p l line book
     unfolding values_bytes value_rows
-    misplaced_refused n = refusal_told (refusal_at 31 line) _ refl (row_goes _ _ right (row_stops _ _ (rw (ne_eqb line 0 n))))
+    misplaced_refused n e = rw e (refusal_told (refusal_at 31 n) _ refl (row_goes _ _ right (row_stops _ _ refl)))
 
-    module _ (placed : line ≡ 0) where
-      no_line : not (eqb line 0) ≡ false
+    module _ (placed : line ≡ None) where
+      no_line : is_some line ≡ false
       no_line = rw placed
 
       pub price_refused : bad_price p ≡ true → refused_bytes 3 0 ≡ values_bytes w p l line book
@@ -78,17 +77,17 @@ module _ (w p : ℕ) (book l lines out : List ℕ) (left : NoticesLeft w book p 
   abbrev refusal : Answer
   refusal = refusal_of w (length book) p l (length lines)
 
-  refusal_is : refusal ≡ first_of (value_rows w 0 p l)
+  refusal_is : refusal ≡ first_of (value_rows w None p l)
   refusal_is =
       let c = left.call in
       sym (right_refusal w (length book) p l (length lines) c)
-      ∙ notices_decide w p l 0 book ((winter_range w).1 c.winter) refl (price_right p c.price) (whole_test (length l) c.whole c.few)
+      ∙ notices_decide w p l None book ((winter_range w).1 c.winter) refl (price_right p c.price) (whole_test (length l) c.whole c.few)
 
-  pub settled_refused : (s.number ≡ 0 → ⊥) → refused_bytes s.number s.place ≡ values_bytes w p l 0 book
+  pub settled_refused : (s.number ≡ 0 → ⊥) → refused_bytes s.number s.place ≡ values_bytes w p l None book
   unfolding values_bytes
   settled_refused n = by (is_refusal refusal) refl
     where
-      by : (b : Bool) → is_refusal refusal ≡ b → refused_bytes s.number s.place ≡ values_bytes w p l 0 book
+      by : (b : Bool) → is_refusal refusal ≡ b → refused_bytes s.number s.place ≡ values_bytes w p l None book
       by true q = rw (e, settled_by_lem w p book l (length lines) q) (refusal_told refusal _ q refusal_is)
       by false q = absurd (n (ap (λ (x : Settlement). x.number) (e ∙ settled_accepted w p book l (length lines) q)))
 
@@ -103,16 +102,16 @@ module _ (w p : ℕ) (book l lines out : List ℕ) (left : NoticesLeft w book p 
         = λ out g. written_just w p book l out g (rw (g, ← left.just) accepted) in
         same lines left.just ∙ sym (same (replicate (room_for l) 0) (length-replicate (room_for l) 0))
 
-    settled_printed : statement_bytes w p l (written w book p l lines) s.energy s.cents ≡ values_bytes w p l 0 book
+    settled_printed : statement_bytes w p l (written w book p l lines) s.energy s.cents ≡ values_bytes w p l None book
     unfolding values_bytes settled_bytes
     settled_printed =
         rw (e, left.just, lines_alike)
-        (statement_told (first_of (value_rows w 0 p l)) _ (rw (← refusal_is) (number_is w p book l (length lines) accepted)))
+        (statement_told (first_of (value_rows w None p l)) _ (rw (← refusal_is) (number_is w p book l (length lines) accepted)))
 
     pub statement_printed : count_of l ≤ most_notices → (filled after : List ℕ) (n : ℕ) → filled ≡ written w book p l lines → length lines ≡ length filled
         → (n ≡ printed_count (cannot_print (count_of l) (length filled) (length out)) (statement_bytes w p l filled s.energy s.cents))
         × (after ≡ printed (cannot_print (count_of l) (length filled) (length out)) (statement_bytes w p l filled s.energy s.cents) out)
-        → Prints (values_bytes w p l 0 book) out n after
+        → Prints (values_bytes w p l None book) out n after
     statement_printed few filled after n f g shown =
         prints_same
         (prints (statement_bytes w p l filled s.energy s.cents) out after n (count_of l) (length filled) (omega (arith, left.just)) few left.room shown)

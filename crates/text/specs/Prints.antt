@@ -1,6 +1,6 @@
 -- What the call's own functions ask and promise: bytes printed at the front of the output, and what its arrays hold of a text.
 -- Assumes nothing.
-use Rattle.std.specs.Prelude.{ℕ, ◌*◌, ◌≤◌, false, List, ◌≡◌, length, replicate}
+use Rattle.std.specs.Prelude.{ℕ, ◌*◌, ◌≤◌, false, List, ◌≡◌, length, replicate, Option, None}
 use Rattle.std.proofs.lemmas.List.Edits.{sets}
 use Rattle.book.specs.Length.{book_length, most_readings}
 use Rattle.credit.proofs.RefusalLaws.{RightCall}
@@ -34,7 +34,7 @@ pub record Arrays (list book out : List ℕ) : Type 0 where
 -- past 1 and 31: the winter is one, with its own book, and no read line is misplaced in it
 pub record InBook (f : Shape) (list book out : List ℕ) : Type 0 where
   pub winter : no_winter f.winter ≡ false
-  pub placed : f.misplaced ≡ 0
+  pub placed : f.misplaced ≡ None
   pub hundred : length list ≡ longest_list
   pub days : length book ≡ book_length (days f.winter)
   pub room : answer_room ≤ length out
@@ -46,8 +46,8 @@ pub record NoticesLeft (w : ℕ) (book : List ℕ) (p : ℕ) (list lines out : L
   pub room : answer_room ≤ length out
 
 -- what is printed of the values of a text that has the form, of which 32 and 30 are past: winter, price, list, the first line that is misplaced
--- or 0, and the book
-unfoldable pub values_bytes : ℕ → ℕ → List ℕ → ℕ → List ℕ → List ℕ
+-- and the book
+unfoldable pub values_bytes : ℕ → ℕ → List ℕ → Option ℕ → List ℕ → List ℕ
 values_bytes w p l line book = told_bytes (first_of (value_rows w line p l)) (settled_bytes w book p l)
 
 -- the same by the shape of the text, its book and its notices

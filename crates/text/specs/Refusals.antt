@@ -1,6 +1,7 @@
 -- The refusals of a text, in the order of rule 4.23.
 -- Assumes nothing.
-use Rattle.std.specs.Prelude.{ℕ, not, List, ◌∷◌, ltb, eqb, length}
+use Rattle.std.specs.Prelude.{ℕ, List, ◌∷◌, ltb, length, Option}
+use Rattle.std.specs.Option.{is_some, unwrap_or}
 use Rattle.calendar.specs.WinterOf.{winter_of}
 use Rattle.dates.specs.Winters.{no_winter}
 use Rattle.form.specs.Form.{form_of, notices_said}
@@ -16,11 +17,11 @@ use Rattle.text.specs.Values.{is_broken, broken_line, winter_said, price_said, m
 abbrev pub most_bytes : ℕ
 most_bytes = 65536
 
--- by the values of a text that has the form: winter, the first misplaced line or 0 (rule 4.18), price and list
-unfoldable pub value_rows : ℕ → ℕ → ℕ → List ℕ → List Row
+-- by the values of a text that has the form: winter, the first misplaced line (rule 4.18), price and list
+unfoldable pub value_rows : ℕ → Option ℕ → ℕ → List ℕ → List Row
 value_rows w line p l =
     row 1 0 (no_winter w)
-    ∷ row 31 line (not (eqb line 0))
+    ∷ row 31 (unwrap_or line 0) (is_some line)
     ∷ row 3 0 (bad_price p)
     ∷ row 4 0 (bad_list (length l))
     ∷ notices_table (winter_of w) (figures_of Credit) l

@@ -3,18 +3,20 @@ ghost use Rattle.std.specs.Prelude.{◌≡◌, ◌≤◌, length, take};
 ghost use Rattle.book.specs.Length.{book_length};
 ghost use Rattle.dates.specs.Winters.{days};
 ghost use Rattle.printing.specs.Sheet.{refused_bytes};
+ghost use Rattle.refusals.specs.Refusals.{rule_number};
 ghost use Rattle.text.specs.Prints.{Prints, PrintsHeld, Arrays, InBook, NoticesLeft, values_bytes, shape_bytes};
 ghost use Rattle.text.specs.Statement.{answer_room, answered, answered_in};
 
-use dates::Days;
-use form::{Form, Shape};
+use form::Shape;
+use refusals::Rule;
 
-// Prints the line of a refused text.
-fn refuse(number: u32, place: u64, out: &mut [u8]) -> usize
+// Prints the line of a text that a rule refuses. A place and not a refusal: a line of a text may lie past the places of refusals. That the output has
+// room stays a `requires` of private functions: as an array of so many bytes it would leave the rest of the output behind, of which `answered_in` speaks.
+fn refuse(rule: Rule, place: u64, out: &mut [u8]) -> usize
     requires { answer_room ≤ length out.old }
-    ensures { Prints (refused_bytes number place) out.old result out.new }
+    ensures { Prints (refused_bytes (rule_number rule) place) out.old result out.new }
 {
-    printing::print_refusal(number, place, out)
+    printing::print_refusal(u32::from(rule), place, out)
 }
 
 // Settles a list into lines, for which there is just the room, and prints the settlement, or the refusal of its notices.
@@ -27,17 +29,12 @@ fn print_settled(
     out: &mut [u8],
 ) -> usize
     requires { NoticesLeft winter book.now price list.now lines.old out.old }
-    ensures { Prints (values_bytes winter price list.now 0 book.now) out.old result out.new }
+    ensures { Prints (values_bytes winter price list.now None book.now) out.old result out.new }
 {
-    let s = credit::settle(winter, book, price, list, lines);
-    let number = s.number;
-    let place = s.place;
-    if number != 0 {
-        return refuse(number, place as u64, out);
+    match credit::settle(winter, book, price, list, lines) {
+        Err(refusal) => refuse(refusal.rule, u64::from(refusal.place), out),
+        Ok(totals) => printing::print_statement(winter, price, list, lines, totals, out),
     }
-    let energy = s.energy;
-    let cents = s.cents;
-    printing::print_statement(winter, price, list, lines, energy, cents, out)
 }
 
 // Prints the answer to a text whose lines all lie in the book of its winter: 3, 4, and the settlement of the notices, of which the list has
@@ -46,20 +43,18 @@ fn print_notices(shape: Shape, list: &[u32], book: &[u32], out: &mut [u8]) -> us
     requires { InBook shape list.now book.now out.old }
     ensures { PrintsHeld shape.events list.now (shape_bytes shape book.now) out.old result out.new }
 {
-    let winter = shape.winter;
-    let price = shape.price;
     let events = shape.events as usize;
-    if money::bad_price(price) {
-        return refuse(3, 0, out);
+    if money::bad_price(shape.price) {
+        return refuse(Rule::BadPrice, 0, out);
     }
     if notices::MOST_NOTICES < events {
-        return refuse(4, 0, out);
+        return refuse(Rule::BadList, 0, out);
     }
     let mut lines = [0u64; credit::MOST_LINE_NUMBERS];
     print_settled(
-        winter,
+        shape.winter,
         book,
-        price,
+        shape.price,
         &list[..notices::NOTICE_NUMBERS * events],
         &mut lines[..credit::LINE_NUMBERS * events],
         out,
@@ -72,12 +67,11 @@ fn print_formed(shape: Shape, list: &[u32], book: &[u32], out: &mut [u8]) -> usi
     ensures { PrintsHeld shape.events list.now (shape_bytes shape (take (book_length (days shape.winter)) book.now))
         out.old result out.new }
 {
-    let Days::Are(days) = dates::winter_days(shape.winter) else {
-        return refuse(1, 0, out);
+    let Some(days) = dates::winter_days(shape.winter) else {
+        return refuse(Rule::NoWinter, 0, out);
     };
-    let line = shape.misplaced;
-    if line != 0 {
-        return refuse(31, line as u64, out);
+    if let Some(line) = shape.misplaced {
+        return refuse(Rule::MisplacedLine, line as u64, out);
     }
     let hours = book::length_of(days);
     print_notices(shape, list, &book[..hours], out)
@@ -93,12 +87,12 @@ pub fn statement(text: &[u8], out: &mut [u8]) -> usize
         return 0;
     }
     if 65_536 < text.len() {
-        return refuse(32, 0, out);
+        return refuse(Rule::LongText, 0, out);
     }
     let mut list = [0u32; notices::LONGEST_LIST];
     let mut book = [book::MISSING_MARK; book::MOST_READINGS];
     match form::read_text(text, &mut list, &mut book) {
-        Form::Broken(line) => refuse(30, line as u64, out),
-        Form::Whole(shape) => print_formed(shape, &list, &book, out),
+        Err(broken) => refuse(Rule::BrokenForm, broken.line as u64, out),
+        Ok(shape) => print_formed(shape, &list, &book, out),
     }
 }

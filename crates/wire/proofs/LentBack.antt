@@ -1,11 +1,12 @@
 -- What a host lends reads back: the numbers in the bytes of some numbers of 32 bits are these, one by one and then as a list.
 -- Assumes nothing.
-use Prim.Native.Nat.{ℕ, zero, suc, ◌+◌, ◌*◌, ◌/◌, ◌%◌, ◌^◌, ◌<◌}
+use Prim.Native.Nat.{ℕ, zero, suc, ◌+◌, ◌*◌, ◌^◌, ◌<◌}
 use mathlib.Core.List.{List, [], ◌∷◌, ◌++◌, append-nil}
 use mathlib.Core.Path.{◌≡◌, refl, sym, ap, ◌∙◌}
 use native.Mathlib.Omega.{arith}
 use lib.ListN.{length, get_or, length-append}
 use lib.Seq.{ext_get_or}
+use Rattle.std.proofs.lemmas.Nat.{from_le_bytes-to_le_bytes_4}
 use Rattle.laws.proofs.Every.{Every}
 use Rattle.laws.proofs.RowLaws.{one_wide, row_in}
 use Rattle.wire.specs.Bytes.{four_bytes_at, numbers_to}
@@ -26,16 +27,9 @@ unfolding lent_bytes
 lent_long [] = refl
 lent_long (v ∷ vs) = simp length-append (omega (arith, four_long v, lent_long vs))
 
--- a number from its digits to the base 256: each q is what is left of it without the digits below
-from_digits : (a0 a1 a2 a3 : ℕ) {v q1 q2 : ℕ} → v ≡ a0 + 2 ^ 8 * q1 → q1 ≡ a1 + 2 ^ 8 * q2 → q2 ≡ a2 + 2 ^ 8 * a3
-    → a0 + 2 ^ 8 * a1 + 2 ^ 16 * a2 + 2 ^ 24 * a3 ≡ v
-from_digits a0 a1 a2 a3 e0 e1 e2 = omega arith
-
 four_back : (v : ℕ) → Fits v → four_bytes_at (four_bytes v) 0 ≡ v
 unfolding four_bytes four_bytes_at
-four_back v h =
-    from_digits (v % 2 ^ 8) (v / 2 ^ 8 % 2 ^ 8) (v / 2 ^ 16 % 2 ^ 8) (v / 2 ^ 24 % 2 ^ 8) {q1 = v / 2 ^ 8} {q2 = v / 2 ^ 16}
-    (omega arith) (omega arith) (omega arith)
+four_back v h = omega (arith, from_le_bytes-to_le_bytes_4 v h)
 
 number_back_lem : (vs : List ℕ) (k : ℕ) → k < length vs → Every Fits vs → four_bytes_at (lent_bytes vs) (4 * k) ≡ get_or vs k 0
 unfolding lent_bytes

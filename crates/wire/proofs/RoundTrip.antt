@@ -1,6 +1,6 @@
 -- What is written reads back: a 64-bit number's eight bytes give it again, and so do those at its place in the output.
 -- Assumes nothing.
-use Prim.Native.Nat.{ℕ, zero, suc, ◌+◌, ◌*◌, ◌/◌, ◌%◌, ◌^◌, ◌≤◌, ◌<◌}
+use Prim.Native.Nat.{ℕ, zero, suc, ◌+◌, ◌*◌, ◌^◌, ◌≤◌, ◌<◌}
 use mathlib.Core.List.{List, ◌++◌}
 use mathlib.Core.Logic.{⊎_elim}
 use mathlib.Core.Path.{◌≡◌, ◌∙◌}
@@ -8,42 +8,14 @@ use native.Mathlib.Nat.{add_assoc, add-zero, eq-or-lt_of_le, le_of_suc-le-suc}
 use native.Mathlib.Omega.{arith}
 use lib.ListN.{length, get_or, get_or-append}
 use lib.Seq.{get_or-append-add}
+use Rattle.std.proofs.lemmas.Nat.{from_le_bytes-to_le_bytes_8}
 use Rattle.laws.proofs.RowLaws.{rows_more}
 use Rattle.wire.specs.Bytes.{four_bytes_at, eight_bytes_at, eight_bytes, bytes_to}
 use Rattle.wire.proofs.WriteLaws.{bytes_long}
 
--- a number from its digits to the base 256: each q is what is left of it without the digits below
-module _ (a0 a1 a2 a3 a4 a5 a6 a7 : ℕ) where
-  from_digits : {v q1 q2 q3 q4 q5 q6 : ℕ} → v ≡ a0 + 2 ^ 8 * q1 → q1 ≡ a1 + 2 ^ 8 * q2 → q2 ≡ a2 + 2 ^ 8 * q3 → q3 ≡ a3 + 2 ^ 8 * q4
-      → q4 ≡ a4 + 2 ^ 8 * q5 → q5 ≡ a5 + 2 ^ 8 * q6 → q6 ≡ a6 + 2 ^ 8 * a7
-      → (a0 + 2 ^ 8 * a1 + 2 ^ 16 * a2 + 2 ^ 24 * a3) + 2 ^ 32 * (a4 + 2 ^ 8 * a5 + 2 ^ 16 * a6 + 2 ^ 24 * a7) ≡ v
-  from_digits e0 e1 e2 e3 e4 e5 e6 = omega arith
-
 eight_back : (v : ℕ) → v < 2 ^ 64 → eight_bytes_at (eight_bytes v) 0 ≡ v
 unfolding four_bytes_at eight_bytes
-eight_back v h =
-    from_digits
-    (v % 2 ^ 8)
-    (v / 2 ^ 8 % 2 ^ 8)
-    (v / 2 ^ 16 % 2 ^ 8)
-    (v / 2 ^ 24 % 2 ^ 8)
-    (v / 2 ^ 32 % 2 ^ 8)
-    (v / 2 ^ 40 % 2 ^ 8)
-    (v / 2 ^ 48 % 2 ^ 8)
-    (v / 2 ^ 56 % 2 ^ 8)
-    {q1 = v / 2 ^ 8}
-    {q2 = v / 2 ^ 16}
-    {q3 = v / 2 ^ 24}
-    {q4 = v / 2 ^ 32}
-    {q5 = v / 2 ^ 40}
-    {q6 = v / 2 ^ 48}
-    (omega arith)
-    (omega arith)
-    (omega arith)
-    (omega arith)
-    (omega arith)
-    (omega arith)
-    (omega arith)
+eight_back v h = omega (arith, from_le_bytes-to_le_bytes_8 v h)
 
 -- in bytes of two parts
 

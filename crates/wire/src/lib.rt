@@ -6,5 +6,5 @@ mod reading;
 mod writing;
 
 pub use counts::numbers_in;
-pub use reading::{number_at, read_numbers};
+pub use reading::{number_at, read_front, read_numbers};
 pub use writing::write_numbers;

@@ -1,30 +1,33 @@
--- `cents_whole` has room for as many energies as are priced: what is read stands at the front of that room, and is what is priced.
+-- `cents_whole` has room for as many energies as are priced: what is read into its front is what is priced.
 -- Assumes nothing.
+use mathlib.Core.Path.{sym}
 use native.Mathlib.Omega.{arith}
-use lib.ListN.{length-take}
 use lib.Seq.{length-take-le}
-use mathlib.Core.Path.{◌∙◌}
-use Rattle.boundary.proofs.Fronts.{front_fits, front_is, front_count}
+use Rattle.money.specs.Worth.{most_energies}
+use Rattle.boundary.proofs.CentsLaws.{just_refused, just_cents}
+use Rattle.boundary.proofs.Fronts.{read_is, read_long}
 use Rattle.boundary.proofs.cents_call.cents_whole.Goals as goal
 
-pub slice_bounds-read_numbers-end : goal.slice_bounds-read_numbers-end
-slice_bounds-read_numbers-end c = simp length-take (omega arith)
+pub slice_bounds-room-end : goal.slice_bounds-room-end
+slice_bounds-room-end c = let long = read_long c.args.energies.now most_energies c.read_front-energies.ensures (omega arith) in omega (arith, long)
 
-pub slice_bounds-numbers-end-2 : goal.slice_bounds-numbers-end-2
-slice_bounds-numbers-end-2 c = front_fits c.args.energies.now _ _ (omega arith) c.read_numbers.ensures
+pub slice_bounds-cents-end : goal.slice_bounds-cents-end
+slice_bounds-cents-end c =
+    let long = read_long c.args.energies.now most_energies c.read_front-energies.ensures (omega arith) in
+    sym (length-take-le _ _ (omega (arith, long)))
 
-pub slice_bounds-cents_numbers-end : goal.slice_bounds-cents_numbers-end
-slice_bounds-cents_numbers-end c = front_count c.args.energies.now _ _ (omega arith) c.read_numbers.ensures
-
-pub slice_bounds-cents_numbers-end-2 : goal.slice_bounds-cents_numbers-end-2
-slice_bounds-cents_numbers-end-2 c = simp length-take (omega arith)
-
-pub cents_numbers-requires : goal.cents_numbers-requires
-cents_numbers-requires c =
-    let count = front_count c.args.energies.now _ _ (omega arith) c.read_numbers.ensures in
-    record { just = length-take-le _ _ (omega arith) ∙ count; bytes_fit = simp length-take (omega arith) }
+pub returns-in_err-cents : goal.returns-in_err-cents
+returns-in_err-cents c =
+    let is = read_is c.args.energies.now most_energies c.read_front-energies.ensures (omega arith) in
+    let long = read_long c.args.energies.now most_energies c.read_front-energies.ensures (omega arith) in
+    rw (← is)
+    (just_refused _ c.read_front-energies.result.now _ c.args.out.now (length-take-le _ _ (omega (arith, long))) (omega (arith, long))
+    _ _ c.from_residual.ensures.1 c.in_err-cents.ensures.value)
 
 pub returns : goal.returns
 returns c =
-    let is = front_is c.args.energies.now _ _ (omega arith) c.read_numbers.ensures in
-    rw (← is) c.cents_numbers.ensures
+    let is = read_is c.args.energies.now most_energies c.read_front-energies.ensures (omega arith) in
+    let long = read_long c.args.energies.now most_energies c.read_front-energies.ensures (omega arith) in
+    rw (← is)
+    (just_cents _ c.read_front-energies.result.now _ c.args.out.now (length-take-le _ _ (omega (arith, long))) (omega (arith, long))
+    _ c.in_ok-cents.ensures.value c.in_ok-cents.ensures.out_after c.cents.auto.out c.write_numbers.ensures)

@@ -2,35 +2,29 @@
 -- years lie in the century that the functions on years ask for.
 -- Assumes nothing.
 use native.Mathlib.Omega.{arith}
-use Rattle.laws.proofs.Refusals.{refused}
-use Rattle.dates.proofs.Promise.{winter_range, no_winter_lem, is_winter, winter_count}
-use Rattle.calendar.specs.Answers.{winter_facts}
+use Rattle.dates.proofs.Promise.{winter_range, is_winter, winter_count}
 use Rattle.calendar.proofs.FactLaws.{facts_given, easter_fits}
 use Rattle.calendar.proofs.winters.winter_of.Goals as goal
 
-pub returns-in_default : goal.returns-in_default
-unfolding winter_facts
-returns-in_default c = refused _ _ (no_winter_lem _ _ c.in_default.is c.winter_days-counted.ensures)
-
 pub first_weekday-requires : goal.first_weekday-requires
 first_weekday-requires c =
-    let is = is_winter _ _ _ c.in-Are.is c.winter_days-counted.ensures in
+    let is = is_winter _ _ _ c.in_ok-days.was c.winter_days.ensures in
     omega (arith, (winter_range c.args.winter).0 is)
 
 pub easter_after-requires : goal.easter_after-requires
 easter_after-requires c =
-    let is = is_winter _ _ _ c.in-Are.is c.winter_days-counted.ensures in
+    let is = is_winter _ _ _ c.in_ok-days.was c.winter_days.ensures in
     omega (arith, (winter_range c.args.winter).0 is)
 
 pub overflow_add-result : goal.overflow_add-result
 overflow_add-result c =
-    let is = is_winter _ _ _ c.in-Are.is c.winter_days-counted.ensures in
+    let is = is_winter _ _ _ c.in_ok-days.was c.winter_days.ensures in
     omega (arith, easter_fits _ _ _ is c.first_of-2.ensures c.easter_after.ensures)
 
 pub returns : goal.returns
 returns c =
-    let counted = c.winter_days-counted.ensures in
-    facts_given _ _ _ _ _ _ (is_winter _ _ _ c.in-Are.is counted) (winter_count _ _ _ c.in-Are.is counted)
+    let counted = c.winter_days.ensures in
+    facts_given _ _ _ _ _ _ (is_winter _ _ _ c.in_ok-days.was counted) (winter_count _ _ _ c.in_ok-days.was counted)
     c.first_of.ensures
     c.first_weekday.ensures
     c.first_of-2.ensures

@@ -1,24 +1,24 @@
 -- `put_lines` puts the lines one after another. Invariant: the first k lines are done, the rest of the output is as it was, and the energy
 -- and the rounded worth of the k lines are at hand.
 -- Assumes nothing.
-use Prim.Native.Nat.{ℕ, ◌-◌}
+use Prim.Native.Nat.{ℕ}
 use mathlib.Core.List.{List}
 use mathlib.Core.Path.{◌≡◌}
+use Rattle.event_hours.specs.Days.{masks_of}
 use Rattle.laws.proofs.RowLaws.{Filled}
 use Rattle.laws.specs.Sums.{sum_to}
 use Rattle.money.specs.Worth.{rounded_worth}
+use Rattle.notices.specs.Notices.{count_of}
 use Rattle.settlement.specs.Events.{event_in, energy_at}
-use Rattle.energy.specs.declared.events.Event.{Event}
+use Rattle.energy.specs.Event.{Event}
 use Rattle.credit.specs.Lines.{line_numbers, line_at}
 use Rattle.credit.proofs.lines.put_lines.Given as goal
 
-pub record Carried (p : ℕ) (events : ℕ → Event) (came : List ℕ) (n : ℕ) (out : List ℕ) (energy worth k : ℕ) : Type 0 where
+pub record Carried (p : ℕ) (events : ℕ → Event) (came : List ℕ) (n : ℕ) (out : List ℕ) (energy cents k : ℕ) : Type 0 where
   pub energy_is : energy ≡ sum_to (energy_at events) k
-  pub worth_of_it : worth ≡ rounded_worth p (sum_to (energy_at events) k)
+  pub worth_of_it : cents ≡ rounded_worth p (sum_to (energy_at events) k)
   pub filled : Filled line_numbers (line_at p events) came n out k
 
 abbrev pub invariant-loop-k : goal.invariant-loop-k
-invariant-loop-k l = Carried l.price (event_in l.w l.book l.masks l.list) l.initial.out l.n l.out l.energy l.worth l.k
-
-abbrev pub decreases-loop-k : goal.decreases-loop-k
-decreases-loop-k l = l.n - l.k
+invariant-loop-k l =
+    Carried l.price (event_in l.w l.book (masks_of l.list) l.list) l.initial.out (count_of l.list) l.out l.energy l.cents l.k

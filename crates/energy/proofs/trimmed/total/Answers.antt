@@ -1,9 +1,12 @@
 -- `total` is the sum of its five numbers, and no sum on the way wraps.
 -- Assumes nothing.
-use Rattle.energy.specs.Trimmed.{sum_of}
-use borrow.Author.Rules.{rules}
+use Rattle.std.proofs.Common.{rules}
+use Rattle.std.proofs.iter.runs.Sources.{sums}
+use Rattle.energy.proofs.TrimmedLaws.{sum_is}
 use Rattle.energy.proofs.trimmed.total.Goals as goal
 
+pub sum-requires-clause-fits : goal.sum-requires-clause-fits
+sum-requires-clause-fits c = search (rules, sums)
+
 pub returns : goal.returns
-unfolding sum_of
-returns c = search rules
+returns c = rw (← sum_is c.args.five.now) (search rules)

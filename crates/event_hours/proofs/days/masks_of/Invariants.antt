@@ -1,13 +1,9 @@
 -- `masks_of` walks over the notices of the list.
 -- The invariant: the masks are those of the first k notices.
 -- Assumes nothing.
-use Prim.Native.Nat.{◌≤◌, ◌-◌}
 use mathlib.Core.Path.{◌≡◌}
 use Rattle.event_hours.specs.Days.{masks_to}
 use Rattle.event_hours.proofs.days.masks_of.Given as goal
 
 abbrev pub invariant-loop-k : goal.invariant-loop-k
-invariant-loop-k l = (l.k ≤ l.count) × (l.masks ≡ masks_to l.list l.k)
-
-abbrev pub decreases-loop-k : goal.decreases-loop-k
-decreases-loop-k l = l.count - l.k
+invariant-loop-k l = l.masks ≡ masks_to l.list l.k

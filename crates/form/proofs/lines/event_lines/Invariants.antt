@@ -3,8 +3,5 @@
 use Rattle.form.proofs.EventWalk.{EventsLeft}
 use Rattle.form.proofs.lines.event_lines.Given as goal
 
-abbrev pub invariant-loop-left : goal.invariant-loop-left
-invariant-loop-left l = EventsLeft l.text l.at l.events l.initial.list l.list l.left l.i l.line l.k
-
-abbrev pub decreases-loop-left : goal.decreases-loop-left
-decreases-loop-left l = l.left
+abbrev pub invariant-loop-k : goal.invariant-loop-k
+invariant-loop-k l = EventsLeft l.text l.at l.events l.initial.list l.list l.next l.k

@@ -4,9 +4,5 @@
 use Rattle.form.proofs.ReadWalk.{ReadsLeft}
 use Rattle.form.proofs.lines.read_lines.Given as goal
 
-abbrev pub invariant-loop-left : goal.invariant-loop-left
-invariant-loop-left l =
-    ReadsLeft l.days l.text l.at l.reads l.first l.initial.book l.book l.left l.i l.line l.end l.found
-
-abbrev pub decreases-loop-left : goal.decreases-loop-left
-decreases-loop-left l = l.left
+abbrev pub invariant-loop-k : goal.invariant-loop-k
+invariant-loop-k l = ReadsLeft l.days l.text l.at l.reads l.first l.initial.book l.book l.next l.end l.found l.k

@@ -7,7 +7,7 @@ use native.Mathlib.Nat.{le_trans, mul-le-mul_right}
 use native.Mathlib.Numerals.{add-one}
 use native.Mathlib.Omega.{arith}
 use lib.ListN.{length, set}
-use Rattle.laws.proofs.RowLaws.{filled_none, filled_set, filled_ones}
+use Rattle.laws.proofs.RowLaws.{filled_none, filled_set}
 use Rattle.laws.proofs.SumLaws.{sum_none, sum_next, sum_bounded}
 use Rattle.laws.specs.Bounds.{largest_energy}
 use Rattle.laws.specs.Sums.{sum_to}
@@ -58,9 +58,6 @@ module _ {p : ℕ} {energies came out : List ℕ} {energy worth k : ℕ} (h : Ca
 pub loop-k-init : goal.loop-k-init
 loop-k-init c = carried_none
 
-pub overflow_cast-more : goal.overflow_cast-more
-overflow_cast-more c = omega (arith, c.requires.low _ c.loop-k-test.true)
-
 pub overflow_add-more : goal.overflow_add-more
 overflow_add-more c = omega (arith, more_few c.loop-k.invariant c.requires c.loop-k-test.true)
 
@@ -70,22 +67,5 @@ rounded_worth-next-requires c = (c.requires.most, more_few c.loop-k.invariant c.
 pub overflow_sub-out : goal.overflow_sub-out
 overflow_sub-out c = no_less c.loop-k.invariant c.requires c.loop-k-test.true _ c.rounded_worth-next.ensures
 
-pub bounds-out-k : goal.bounds-out-k
-bounds-out-k c = omega (arith, c.loop-k.invariant.filled.size, c.requires.room_enough)
-
-pub overflow_add-k : goal.overflow_add-k
-overflow_add-k c = omega arith
-
-pub loop-k-smaller : goal.loop-k-smaller
-loop-k-smaller c = omega arith
-
 pub loop-k-preserved : goal.loop-k-preserved
 loop-k-preserved c = carried_next c.loop-k.invariant c.requires c.loop-k-test.true _ c.rounded_worth-next.ensures
-
-pub shape_of-out : goal.shape_of-out
-shape_of-out c = c.loop-k.invariant.filled.size
-
-pub returns : goal.returns
-returns c =
-    let all : c.loop-k.k ≡ length c.args.energies.now = omega (arith, c.loop-k.invariant.filled.within) in
-    record { value = rw (← all) c.loop-k.invariant.worth_of_it; out_after = filled_ones c.loop-k.invariant.filled c.loop-k-test.false }

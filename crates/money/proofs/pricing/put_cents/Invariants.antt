@@ -1,7 +1,7 @@
 -- `put_cents` puts the cents one after another. Invariant: the cents of the first k energies are done, the rest of the output is as it was, and the
 -- sum of the k energies and what it is worth are at hand.
 -- Assumes nothing.
-use Prim.Native.Nat.{ℕ, ◌-◌}
+use Prim.Native.Nat.{ℕ}
 use mathlib.Core.List.{List, [], ◌∷◌}
 use mathlib.Core.Path.{◌≡◌}
 use lib.ListN.{length}
@@ -18,6 +18,3 @@ pub record Carried (p : ℕ) (energies came out : List ℕ) (energy worth k : �
 
 abbrev pub invariant-loop-k : goal.invariant-loop-k
 invariant-loop-k l = Carried l.price l.energies l.initial.out l.out l.energy l.worth l.k
-
-abbrev pub decreases-loop-k : goal.decreases-loop-k
-decreases-loop-k l = length l.energies - l.k

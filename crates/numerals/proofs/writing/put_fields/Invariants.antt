@@ -1,12 +1,7 @@
 -- `put_fields` puts one number a turn. Invariant: the numbers that are left put what all put (`FieldWalk`).
 -- Assumes nothing.
-use Prim.Native.Nat.{◌-◌}
-use lib.ListN.{length}
 use Rattle.numerals.proofs.FieldWalk.{FieldsLeft}
 use Rattle.numerals.proofs.writing.put_fields.Given as goal
 
 abbrev pub invariant-loop-k : goal.invariant-loop-k
 invariant-loop-k l = FieldsLeft l.initial.out l.at l.numbers l.out l.i l.k
-
-abbrev pub decreases-loop-k : goal.decreases-loop-k
-decreases-loop-k l = length l.numbers - l.k

@@ -1,64 +1,46 @@
--- `power_whole` has room for the numbers of every book, list and references of the right lengths: what is read stands at the front of that room,
--- and is what is settled.
+-- `power_whole` has room for the numbers of every book, list and references of the right lengths: what is read into its front is what is settled.
 -- Assumes nothing.
+use mathlib.Core.Path.{sym, refl}
 use native.Mathlib.Omega.{arith}
 use lib.ListN.{length-take}
+use lib.Seq.{length-take-le}
+use Rattle.book.specs.Length.{most_readings}
+use Rattle.notices.specs.Notices.{most_notices, longest_list}
 use Rattle.power.specs.Lines.{power_line_numbers}
-use Rattle.boundary.proofs.Fronts.{front_fits, front_is, front_count, lines_room}
+use Rattle.boundary.proofs.Fronts.{read_is, read_long, lines_room}
+use Rattle.power_boundary.proofs.PowerLaws.{just_refused, just_settled}
 use Rattle.power_boundary.proofs.power_call.power_whole.Goals as goal
 
-pub overflow_mul-room : goal.overflow_mul-room
-overflow_mul-room c = omega (arith, c.count_in-room.ensures)
+pub slice_bounds-room-end : goal.slice_bounds-room-end
+slice_bounds-room-end c =
+    let long = read_long c.args.list.now longest_list c.read_front-list.ensures (omega arith) in
+    omega (arith, long, c.count_in.ensures)
 
-pub slice_bounds-read_numbers-end : goal.slice_bounds-read_numbers-end
-slice_bounds-read_numbers-end c = simp length-take (omega arith)
+pub slice_bounds-lines-end : goal.slice_bounds-lines-end
+slice_bounds-lines-end c =
+    let long = read_long c.args.list.now longest_list c.read_front-list.ensures (omega arith) in
+    sym (length-take-le _ _ (omega (arith, long, c.count_in.ensures)))
 
-pub slice_bounds-read_numbers-end-2 : goal.slice_bounds-read_numbers-end-2
-slice_bounds-read_numbers-end-2 c = simp length-take (omega arith)
-
-pub slice_bounds-read_numbers-end-3 : goal.slice_bounds-read_numbers-end-3
-slice_bounds-read_numbers-end-3 c = simp length-take (omega arith)
-
-pub slice_bounds-readings-end-2 : goal.slice_bounds-readings-end-2
-slice_bounds-readings-end-2 c =
-    front_fits c.args.book.now _ _ (omega arith) c.read_numbers.ensures
-
-pub slice_bounds-power_numbers-end : goal.slice_bounds-power_numbers-end
-slice_bounds-power_numbers-end c =
-    front_count c.args.book.now _ _ (omega arith) c.read_numbers.ensures
-
-pub slice_bounds-numbers-end-2 : goal.slice_bounds-numbers-end-2
-slice_bounds-numbers-end-2 c =
-    front_fits c.args.list.now _ _ (omega arith) c.read_numbers-2.ensures
-
-pub slice_bounds-power_numbers-end-2 : goal.slice_bounds-power_numbers-end-2
-slice_bounds-power_numbers-end-2 c =
-    front_count c.args.list.now _ _ (omega arith) c.read_numbers-2.ensures
-
-pub slice_bounds-powers-end-2 : goal.slice_bounds-powers-end-2
-slice_bounds-powers-end-2 c =
-    front_fits c.args.references.now _ _ (omega arith) c.read_numbers-3.ensures
-
-pub slice_bounds-power_numbers-end-3 : goal.slice_bounds-power_numbers-end-3
-slice_bounds-power_numbers-end-3 c =
-    front_count c.args.references.now _ _ (omega arith) c.read_numbers-3.ensures
-
-pub slice_bounds-power_numbers-end-4 : goal.slice_bounds-power_numbers-end-4
-slice_bounds-power_numbers-end-4 c = simp length-take (omega arith)
-
-pub power_numbers-requires : goal.power_numbers-requires
-power_numbers-requires c =
-    let count = front_count c.args.list.now _ _ (omega arith) c.read_numbers-2.ensures in
-    let lines = c.count_in-room.ensures in
-    record {
-      just = lines_room power_line_numbers _ _ _ _ count lines (omega (arith, lines));
-      bytes_fit = simp length-take (omega (arith, lines));
-      totals_fit = c.requires.totals_for;
-    }
+pub returns-in_err-s : goal.returns-in_err-s
+returns-in_err-s c =
+    let book_is = read_is c.args.book.now most_readings c.read_front-book.ensures (omega arith) in
+    let list_is = read_is c.args.list.now longest_list c.read_front-list.ensures (omega arith) in
+    let references_are = read_is c.args.references.now most_notices c.read_front-references.ensures (omega arith) in
+    let long = read_long c.args.list.now longest_list c.read_front-list.ensures (omega arith) in
+    let lines = c.count_in.ensures in
+    rw (← book_is, ← list_is, ← references_are)
+    (just_refused _ c.read_front-book.result.now c.read_front-list.result.now c.read_front-references.result.now _ c.args.out.now c.args.totals.now
+    (lines_room power_line_numbers _ _ _ _ refl lines (omega (arith, long, lines))) (simp length-take (omega (arith, long, lines))) (omega arith)
+    _ _ c.from_residual.ensures.1 c.in_err-s.ensures.value)
 
 pub returns : goal.returns
 returns c =
-    let book_is = front_is c.args.book.now _ _ (omega arith) c.read_numbers.ensures in
-    let list_is = front_is c.args.list.now _ _ (omega arith) c.read_numbers-2.ensures in
-    let references_are = front_is c.args.references.now _ _ (omega arith) c.read_numbers-3.ensures in
-    rw (← book_is, ← list_is, ← references_are) c.power_numbers.ensures
+    let book_is = read_is c.args.book.now most_readings c.read_front-book.ensures (omega arith) in
+    let list_is = read_is c.args.list.now longest_list c.read_front-list.ensures (omega arith) in
+    let references_are = read_is c.args.references.now most_notices c.read_front-references.ensures (omega arith) in
+    let long = read_long c.args.list.now longest_list c.read_front-list.ensures (omega arith) in
+    let lines = c.count_in.ensures in
+    rw (← book_is, ← list_is, ← references_are)
+    (just_settled _ c.read_front-book.result.now c.read_front-list.result.now c.read_front-references.result.now _ c.args.out.now c.args.totals.now
+    (lines_room power_line_numbers _ _ _ _ refl lines (omega (arith, long, lines))) (simp length-take (omega (arith, long, lines))) (omega arith)
+    c.in_ok-s.s c.in_ok-s.ensures.value c.in_ok-s.ensures.out_after c.settle.auto.out c.write_numbers.ensures c.write_numbers-2.ensures)

@@ -2,14 +2,13 @@
 -- Assumes nothing.
 use Prim.Native.Nat.{ℕ, ◌+◌}
 use mathlib.Core.List.{List, [], ◌∷◌}
-use mathlib.Core.Path.{◌≡◌, refl, ◌∙◌}
 use native.Mathlib.Numerals.{add-one}
 use native.Mathlib.Omega.{arith}
 use Rattle.laws.proofs.RowLaws.{rows_none, rows_more}
 use Rattle.numerals.specs.Lines.{line_bytes, bytes_of_lines}
 use Rattle.numerals.specs.Put.{Put}
 use Rattle.printing.specs.Sheet.{notice_line, notice_lines}
-use Rattle.numerals.proofs.PutLaws.{put_length, put_none, put_last, put_both}
+use Rattle.numerals.proofs.PutLaws.{put_none, put_last, put_both}
 use Rattle.printing.proofs.lines.put_lines.Goals as goal
 
 -- a turn: one line more
@@ -25,15 +24,7 @@ lines_none : (l out before : List ℕ) (i : ℕ) → Put before i (bytes_of_line
 lines_none l out before i = rw (rows_none (λ (k : ℕ). notice_line l out k ∷ [])) (put_none before i)
 
 pub loop-k-init : goal.loop-k-init
-loop-k-init c = (omega arith, omega arith, refl, lines_none _ _ _ _)
+loop-k-init c = (omega arith, lines_none _ _ _ _)
 
 pub loop-k-preserved : goal.loop-k-preserved
-loop-k-preserved c =
-    let loop = c.loop-k in
-    let put = c.put_notice-next.ensures.put in
-    (omega arith, omega arith, put_length put ∙ loop.invariant.2, lines_next _ _ loop.k loop.invariant.3 put)
-
-pub returns : goal.returns
-returns c =
-    let all : c.loop-k.k ≡ c.args.n = omega arith in
-    record { put = rw (← all) c.loop-k.invariant.3; upper_bound = omega arith }
+loop-k-preserved c = (omega arith, lines_next _ _ c.loop-k.k c.loop-k.invariant.1 c.put_notice-next.ensures.put)

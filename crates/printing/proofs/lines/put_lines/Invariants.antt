@@ -1,8 +1,6 @@
 -- `put_lines` puts one line a turn. Invariant: the lines of the first k notices are put, each in 152 bytes at most.
 -- Assumes nothing.
-use Prim.Native.Nat.{◌+◌, ◌*◌, ◌-◌, ◌≤◌}
-use mathlib.Core.Path.{◌≡◌}
-use lib.ListN.{length}
+use Prim.Native.Nat.{◌+◌, ◌*◌, ◌≤◌}
 use Rattle.numerals.specs.Lines.{bytes_of_lines}
 use Rattle.numerals.specs.Put.{Put}
 use Rattle.printing.specs.Sheet.{notice_lines}
@@ -10,8 +8,4 @@ use Rattle.printing.proofs.lines.put_lines.Given as goal
 
 abbrev pub invariant-loop-k : goal.invariant-loop-k
 invariant-loop-k l =
-    (l.k ≤ l.n) × (l.next ≤ l.at + 152 * l.k) × (length l.out ≡ length l.initial.out)
-    × Put l.initial.out l.at (bytes_of_lines (notice_lines l.list l.lines l.k)) l.next l.out
-
-abbrev pub decreases-loop-k : goal.decreases-loop-k
-decreases-loop-k l = l.n - l.k
+    (l.next ≤ l.at + 152 * l.k) × Put l.initial.out l.at (bytes_of_lines (notice_lines l.list l.lines l.k)) l.next l.out

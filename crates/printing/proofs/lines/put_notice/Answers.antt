@@ -2,7 +2,7 @@
 -- Assumes nothing.
 use Prim.Native.Nat.{ℕ, ◌+◌, ◌≤◌}
 use mathlib.Core.List.{List}
-use mathlib.Core.Path.{◌≡◌, ap}
+use mathlib.Core.Path.{◌≡◌}
 use native.Mathlib.Omega.{arith}
 use lib.ListN.{length}
 use Rattle.numerals.proofs.FieldWalk.{whole_line}
@@ -20,8 +20,5 @@ put_line_of : (l lines : List ℕ) (k : ℕ) {before after numbers : List ℕ} {
 unfolding notice_line
 put_line_of l lines k is put room = whole_line (bytes_of "line=") (numbers_at l lines k) (rw is at put) (omega arith)
 
-pub returns : goal.returns
-returns c =
-    let is = c.numbers_at-numbers.ensures in
-    let seven = ap length is in
-    record { put = put_line_of _ _ c.args.k is c.put_line.ensures.put c.requires.1; upper_bound = omega (arith, c.put_line.ensures.upper_bound, seven) }
+pub returns-clause-put : goal.returns-clause-put
+returns-clause-put c = put_line_of _ _ c.args.k c.numbers_at-numbers.ensures c.put_line.ensures.put c.requires.1

@@ -7,12 +7,11 @@ use Rattle.printing.proofs.sheet.print_refusal.Goals as goal
 
 pub returns-then-cannot_print : goal.returns-then-cannot_print
 returns-then-cannot_print c =
-    let both = printed_nothing _ _ (found c.cannot_print.ensures c.if-cannot_print.true) in record { value = both.0; out_after = both.1 }
-
-pub put_refusal-requires : goal.put_refusal-requires
-put_refusal-requires c = omega (arith, (has_room 0 0 _ (found c.cannot_print.ensures c.if-cannot_print.false)).1)
+    let both = printed_nothing _ _ (found c.cannot_print.ensures c.if-cannot_print.true) in
+    record { value = both.0; out_after = both.1 }
 
 pub returns : goal.returns
 returns c =
     let cannot = found c.cannot_print.ensures c.if-cannot_print.false in
-    let both = printed_front cannot c.put_refusal.ensures.put (omega (arith, (has_room 0 0 _ cannot).1)) in record { value = both.0; out_after = both.1 }
+    let both = printed_front cannot (rw c.from.ensures at c.put_refusal.ensures.put) (omega (arith, (has_room 0 0 _ cannot).1)) in
+    record { value = both.0; out_after = both.1 }

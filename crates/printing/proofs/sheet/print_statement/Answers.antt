@@ -1,16 +1,13 @@
 -- `print_statement` writes only where there is room, and then the whole statement.
 -- Assumes nothing.
 use Rattle.laws.proofs.Guards.{found}
-use Rattle.printing.proofs.RoomLaws.{has_room, printed_nothing, printed_front}
+use Rattle.printing.proofs.RoomLaws.{printed_nothing, printed_front}
 use Rattle.printing.proofs.sheet.print_statement.Goals as goal
 
 pub returns-then-cannot_print : goal.returns-then-cannot_print
 returns-then-cannot_print c =
     let both = printed_nothing _ _ (found (rw c.count_in.ensures at c.cannot_print.ensures) c.if-cannot_print.true) in
     record { value = both.0; out_after = both.1 }
-
-pub put_statement-requires : goal.put_statement-requires
-put_statement-requires c = has_room _ _ _ (found (rw c.count_in.ensures at c.cannot_print.ensures) c.if-cannot_print.false)
 
 pub returns : goal.returns
 returns c =

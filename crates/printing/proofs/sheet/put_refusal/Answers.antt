@@ -7,8 +7,6 @@ use Rattle.numerals.specs.Words.{bytes_of}
 use Rattle.printing.specs.Sheet.{refused_lines}
 use Rattle.printing.proofs.sheet.put_refusal.Goals as goal
 
-pub returns : goal.returns
+pub returns-clause-put : goal.returns-clause-put
 unfolding refused_lines
-returns c =
-    let put = c.put_line.ensures in
-    record { put = put_last _ (whole_line (bytes_of "refused=") _ put.put (omega arith)); upper_bound = omega (arith, put.upper_bound) }
+returns-clause-put c = put_last _ (whole_line (bytes_of "refused=") _ c.put_line.ensures.put (omega arith))

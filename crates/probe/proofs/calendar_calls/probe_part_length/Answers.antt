@@ -4,7 +4,7 @@ use Rattle.probe.proofs.YearLaws.{no_part_of, part_of_lem}
 use Rattle.probe.proofs.calendar_calls.probe_part_length.Goals as goal
 
 pub returns-in_default : goal.returns-in_default
-returns-in_default c = rw (← no_part_of _ _ c.winter_of-known.ensures _ _ c.in_default.is)
+returns-in_default c = rw (← no_part_of _ _ c.winter_of.ensures _ _ c.in_default.is)
 
 pub returns : goal.returns
-returns c = rw (← part_of_lem _ _ c.winter_of-known.ensures _ _ _ c.in-Is.is) (rw c.day_readings-part.ensures.contents)
+returns c = rw (← part_of_lem _ _ c.winter_of.ensures _ _ _ c.in-Some.is) (rw c.day_readings.ensures.contents)

@@ -6,6 +6,3 @@ use Rattle.references.proofs.search.past_events.Given as goal
 
 abbrev pub invariant-loop-d : goal.invariant-loop-d
 invariant-loop-d l = Onward (free_in l.masks) l.day l.d
-
-abbrev pub decreases-loop-d : goal.decreases-loop-d
-decreases-loop-d l = l.d

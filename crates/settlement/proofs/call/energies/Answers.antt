@@ -1,40 +1,75 @@
 -- `energies` decides everything that can refuse, and only then writes. Where the call is not refused its winter is one, whose facts are worked out
 -- once.
 -- Assumes nothing.
-use mathlib.Core.Bool.{true≢false}
-use mathlib.Core.Path.{sym, ◌∙◌}
+use mathlib.Core.Bool.{false, true≢false}
+use mathlib.Core.Path.{◌≡◌, refl, sym, ap, ◌∙◌}
+use native.Mathlib.Omega.{arith}
 use lib.ListN.{length}
+use Rattle.std.proofs.lemmas.Result.{err_from_is_err_and}
+use Rattle.std.specs.Prelude.{Some, None}
 use Rattle.calendar.proofs.Answered.{no_winter_known, winter_known}
+use Rattle.calendar.specs.declared.answers.Winter.{Winter}
 use Rattle.dates.proofs.Promise.{winter_range}
-use Rattle.settlement.proofs.RefusalLaws.{refusal_notices, call_is_right}
+use Rattle.laws.specs.Table.{is_refusal}
+use Rattle.notices.specs.declared.profiles.Profile.TheVariants.{Credit}
+use Rattle.schedule.specs.ListCheck.{checked_in}
+use Rattle.settlement.proofs.RefusalLaws.{call_refuses, refusal_notices, call_is_right}
 use Rattle.settlement.proofs.CallLaws.{right_fits}
-use Rattle.settlement.proofs.EnergiesLaws.{call_refused, call_unwritten}
-use Rattle.settlement.proofs.WayLaws.{answered_in_lem, written_in}
+use Rattle.settlement.proofs.EnergiesLaws.{refused_lem, refused_answer, answer_accepted, written_by_lem, written_accepted}
+use Rattle.settlement.proofs.WayLaws.{total_same, lines_are}
 use Rattle.settlement.proofs.call.energies.Goals as goal
 
-pub returns-then-number-ne0 : goal.returns-then-number-ne0
-returns-then-number-ne0 c =
-    let said = c.call_refusal-number.ensures in
-    record {
-      value = c.refused_with.ensures ∙ call_refused _ c.args.book.now _ (length c.args.out.now) _ said c.if-number-ne0.true;
-      out_after = call_unwritten _ c.args.book.now _ c.args.out.now _ said c.if-number-ne0.true;
-    }
+pub returns-in_err-call_refusal : goal.returns-in_err-call_refusal
+returns-in_err-call_refusal c =
+    let p = err_from_is_err_and c.from_residual.result c.from_residual.ensures.1 in
+    let book = c.args.book.now in
+    let list = c.args.list.now in
+    let out = c.args.out.now in
+    let said = call_refuses _ (length book) list (length out) _ c.in_err-call_refusal.ensures in
+    rw (p.1, p.2)
+    (record {
+      value = refused_answer _ book list (length out) _ said;
+      out_after = sym (written_by_lem _ book list out (refused_lem _ book list (length out) _ said));
+    })
 
-pub returns-in_default : goal.returns-in_default
-returns-in_default c =
-    let right = call_is_right _ (length c.args.book.now) c.args.list.now _ _ c.call_refusal-number.ensures c.if-number-ne0.false in
-    let none = no_winter_known _ _ c.in_default.is c.winter_of-known.ensures in
-    absurd (true≢false (sym none ∙ (winter_range _).1 right.winter))
+pub returns-in_err-w : goal.returns-in_err-w
+returns-in_err-w c =
+    let none : c.winter_of.result ≡ None = grind arith in
+    let right = call_is_right _ (length c.args.book.now) c.args.list.now _ 0 c.in_ok-call_refusal.ensures refl in
+    absurd (true≢false (sym (no_winter_known _ _ none c.winter_of.ensures) ∙ (winter_range _).1 right.winter))
 
-pub energies_in-requires : goal.energies_in-requires
-energies_in-requires c =
-    right_fits (call_is_right _ (length c.args.book.now) c.args.list.now _ _ c.call_refusal-number.ensures c.if-number-ne0.false)
+pub returns-in_err-check_in : goal.returns-in_err-check_in
+returns-in_err-check_in c =
+    let p = err_from_is_err_and c.from_residual-in_err-check_in.result c.from_residual-in_err-check_in.ensures.1 in
+    let book = c.args.book.now in
+    let list = c.args.list.now in
+    let out = c.args.out.now in
+    let some : c.winter_of.result ≡ Some c.in_ok-w.w = grind arith in
+    let is = winter_known _ _ _ some c.winter_of.ensures in
+    let said =
+    c.in_err-check_in.ensures
+    ∙ ap (λ (w : Winter). checked_in w Credit list) is.1
+    ∙ refusal_notices _ (length book) list (length out) 0 c.in_ok-call_refusal.ensures refl in
+    rw (p.1, p.2)
+    (record {
+      value = refused_answer _ book list (length out) _ said;
+      out_after = sym (written_by_lem _ book list out (refused_lem _ book list (length out) _ said));
+    })
+
+pub put_lines-requires : goal.put_lines-requires
+put_lines-requires c = right_fits (call_is_right _ (length c.args.book.now) c.args.list.now _ 0 c.in_ok-call_refusal.ensures refl)
 
 pub returns : goal.returns
 returns c =
-    let is = winter_known _ _ _ c.in-Is.is c.winter_of-known.ensures in
-    let notices = refusal_notices _ (length c.args.book.now) c.args.list.now _ _ c.call_refusal-number.ensures c.if-number-ne0.false in
+    let book = c.args.book.now in
+    let list = c.args.list.now in
+    let out = c.args.out.now in
+    let some : c.winter_of.result ≡ Some c.in_ok-w.w = grind arith in
+    let is = winter_known _ _ _ some c.winter_of.ensures in
+    let stand : is_refusal (checked_in c.in_ok-w.w Credit list) ≡ false = ap is_refusal (sym c.in_ok-check_in.ensures) in
+    let notices = refusal_notices _ (length book) list (length out) 0 c.in_ok-call_refusal.ensures refl in
+    let none = ap is_refusal (sym notices) ∙ (rw is.1 at stand) in
     record {
-      value = c.energies_in.ensures.value ∙ answered_in_lem _ c.args.book.now c.args.list.now _ is.0 is.1 _ notices;
-      out_after = c.energies_in.ensures.out_after ∙ written_in _ c.args.book.now c.args.list.now _ is.0 is.1 c.args.out.now notices;
+      value = rw c.put_lines.ensures.value (total_same _ book list _ is.0 is.1 stand ∙ sym (answer_accepted _ book list (length out) none));
+      out_after = c.put_lines.ensures.out_after ∙ lines_are _ book list _ is.0 is.1 stand out ∙ sym (written_accepted _ book list out none);
     }

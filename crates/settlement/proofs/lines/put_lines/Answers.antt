@@ -2,18 +2,21 @@
 -- Assumes nothing.
 use Prim.Native.Nat.{ℕ, suc, ◌+◌, ◌*◌, ◌≤◌, ◌<◌}
 use mathlib.Core.List.{List, [], ◌∷◌}
-use mathlib.Core.Path.{◌≡◌, sym}
+use mathlib.Core.Path.{◌≡◌, refl, sym, ◌∙◌}
 use native.Mathlib.Nat.{le_trans}
 use native.Mathlib.Numerals.{add-one}
 use native.Mathlib.Omega.{arith}
 use lib.ListN.{length}
 use lib.Seq.{sets}
+use Rattle.std.proofs.lemmas.List.Edits.{sets-eq}
+use Rattle.std.proofs.lemmas.Slice.{put_mid-paste}
 use Rattle.laws.proofs.RowLaws.{filled_none, filled_next, filled_all}
 use Rattle.laws.proofs.SumLaws.{sum_none, sum_next}
 use Rattle.laws.specs.Bounds.{largest_energy}
 use Rattle.laws.specs.Sums.{sum_to}
-use Rattle.notices.specs.Notices.{most_notices}
-use Rattle.energy.specs.declared.events.Event.{Event}
+use Rattle.notices.specs.Notices.{most_notices, count_of}
+use Rattle.energy.proofs.PaperLaws.{event_energy}
+use Rattle.energy.specs.Event.{Event, event_paper, event_numbers}
 use Rattle.settlement.specs.Energies.{Fits}
 use Rattle.settlement.specs.Events.{energy_at}
 use Rattle.settlement.specs.Lines.{line_numbers, line_at}
@@ -52,28 +55,24 @@ loop-k-init c = carried_none
 
 pub overflow_add-energy : goal.overflow_add-energy
 overflow_add-energy c =
-    let few = more_few c.loop-k.invariant c.requires c.loop-k-test.true _ c.event_at-event.ensures (energies_bounded _ _ _ _) in
-    omega (arith, few)
-
-pub overflow_mul-k : goal.overflow_mul-k
-overflow_mul-k c = omega arith
-
-pub put_line-requires : goal.put_line-requires
-put_line-requires c = omega arith
-
-pub overflow_add-k : goal.overflow_add-k
-overflow_add-k c = omega arith
-
-pub loop-k-smaller : goal.loop-k-smaller
-loop-k-smaller c = omega arith
+    let lt = rw c.count_in-k-end.ensures at c.loop-k-test.true in
+    let is = rw c.masks_of-masks.ensures at c.event_at-event.ensures in
+    let few = more_few c.loop-k.invariant c.requires lt _ is (energies_bounded _ _ _ _) in
+    omega (arith, c.unwrap_or-energy.ensures, event_energy c.event_at-event.result, few)
 
 pub loop-k-preserved : goal.loop-k-preserved
-loop-k-preserved c = carried_next c.loop-k.invariant c.requires c.loop-k-test.true _ c.event_at-event.ensures _ c.put_line.ensures
-
-pub shape_of-out : goal.shape_of-out
-shape_of-out c = c.loop-k.invariant.filled.size
+loop-k-preserved c =
+    let lt = rw c.count_in-k-end.ensures at c.loop-k-test.true in
+    let is = rw c.masks_of-masks.ensures at c.event_at-event.ensures in
+    let out = c.loop-k.out in
+    let line = event_numbers (event_paper c.event_at-event.result) in
+    let stored = rw c.line_numbers-line.ensures at c.copy_from_slice.ensures.after in
+    rw (c.unwrap_or-energy.ensures ∙ event_energy c.event_at-event.result)
+    (carried_next c.loop-k.invariant c.requires lt _ is _
+    (put_mid-paste _ _ out _ line 3 stored (omega arith) refl ∙ sym (sets-eq line out _ (omega arith))))
 
 pub returns : goal.returns
 returns c =
-    let all : c.loop-k.k ≡ c.args.n = omega arith in
-    record { value = rw (← all) c.loop-k.invariant.energy_is; out_after = filled_all c.loop-k.invariant.filled c.loop-k-test.false }
+    let past = rw c.count_in-k-end.ensures at c.loop-k-test.false in
+    let all : c.loop-k.k ≡ count_of c.args.list.now = omega (arith, c.loop-k.invariant.filled.within) in
+    record { value = rw (← all) c.loop-k.invariant.energy_is; out_after = filled_all c.loop-k.invariant.filled past }

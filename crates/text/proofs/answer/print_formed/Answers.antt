@@ -12,23 +12,23 @@ returns-in_default c =
     let wrong = no_winter_lem _ _ c.in_default.is c.winter_days.ensures in
     record { for_each = λ l h. prints_same c.refuse.ensures (winter_refused _ _ l _ _ wrong) }
 
-pub returns-then-line-ne0 : goal.returns-then-line-ne0
-returns-then-line-ne0 c =
-    let right = is_winter _ _ _ c.in-Are.is c.winter_days.ensures in
-    record { for_each = λ l h. prints_same c.refuse-then-line-ne0.ensures (misplaced_refused _ _ l _ _ right c.if-line-ne0.true) }
+pub returns-in-Some-misplaced : goal.returns-in-Some-misplaced
+returns-in-Some-misplaced c =
+    let right = is_winter _ _ _ c.in-Some.is c.winter_days.ensures in
+    record { for_each = λ l h. prints_same c.refuse-in-Some-misplaced.ensures (misplaced_refused _ _ l _ _ right _ c.in-Some-misplaced.is) }
 
 pub slice_bounds-print_notices-end : goal.slice_bounds-print_notices-end
 slice_bounds-print_notices-end c =
-    let fits = book_fits _ _ (winter_count _ _ _ c.in-Are.is c.winter_days.ensures) in
+    let fits = book_fits _ _ (winter_count _ _ _ c.in-Some.is c.winter_days.ensures) in
     simp length-take (omega (arith, fits, c.length_of-hours.ensures))
 
 pub print_notices-requires : goal.print_notices-requires
 print_notices-requires c =
-    let many = winter_count _ _ _ c.in-Are.is c.winter_days.ensures in
+    let many = winter_count _ _ _ c.in-Some.is c.winter_days.ensures in
     let fits = book_fits _ _ many in
     record {
-      winter = is_winter _ _ _ c.in-Are.is c.winter_days.ensures;
-      placed = c.if-line-ne0.false;
+      winter = is_winter _ _ _ c.in-Some.is c.winter_days.ensures;
+      placed = c.in_default-misplaced.is;
       hundred = c.requires.hundred;
       days = simp length-take (omega (arith, fits, c.length_of-hours.ensures, many, c.requires.days));
       room = c.requires.room;
@@ -36,5 +36,5 @@ print_notices-requires c =
 
 pub returns : goal.returns
 returns c =
-    let many = winter_count _ _ _ c.in-Are.is c.winter_days.ensures in
+    let many = winter_count _ _ _ c.in-Some.is c.winter_days.ensures in
     record { for_each = λ l h. prints_same (c.print_notices.ensures.for_each l h) (rw (c.length_of-hours.ensures, many)) }

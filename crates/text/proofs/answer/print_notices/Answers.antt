@@ -1,6 +1,7 @@
 -- A wrong price is refused, and then more than 100 notices; the notices that the array holds are settled with just the room for their lines.
 -- Assumes nothing.
 use Prim.Native.Nat.{ℕ}
+use Rattle.std.specs.Prelude.{Option, None}
 use mathlib.Core.List.{List}
 use mathlib.Core.Path.{sym, ap, ◌∙◌}
 use native.Mathlib.Omega.{arith}
@@ -26,12 +27,6 @@ returns-then-events-gt-MOST_NOTICES c =
           (list_refused _ _ l _ _ c.requires.winter c.requires.placed right (many_bad l _ h.three c.if-events-gt-MOST_NOTICES.true));
     }
 
-pub slice_bounds-print_settled-end : goal.slice_bounds-print_settled-end
-slice_bounds-print_settled-end c = simp length-take (omega arith)
-
-pub slice_bounds-print_settled-end-2 : goal.slice_bounds-print_settled-end-2
-slice_bounds-print_settled-end-2 c = simp length-take (omega arith)
-
 pub print_settled-requires : goal.print_settled-requires
 print_settled-requires c =
     record {
@@ -52,8 +47,9 @@ pub returns : goal.returns
 returns c =
     let shape = c.args.shape in
     let book = c.args.book.now in
+    let few = c.if-events-gt-MOST_NOTICES.false in
     record {
       for_each = λ l h. prints_same c.print_settled.ensures
-          (ap (λ (x : List ℕ). values_bytes shape.winter shape.price x 0 book) (list_front shape.events l c.args.list.now c.if-events-gt-MOST_NOTICES.false h)
-          ∙ ap (λ (line : ℕ). values_bytes shape.winter shape.price l line book) (sym c.requires.placed));
+          (ap (λ (x : List ℕ). values_bytes shape.winter shape.price x None book) (list_front shape.events l c.args.list.now few h)
+          ∙ ap (λ (line : Option ℕ). values_bytes shape.winter shape.price l line book) (sym c.requires.placed));
     }

@@ -5,4 +5,6 @@ use Rattle.text.proofs.PrintLaws.{prints}
 use Rattle.text.proofs.answer.refuse.Goals as goal
 
 pub returns : goal.returns
-returns c = prints _ c.args.out.now _ _ 0 0 (omega arith) (omega arith) c.requires (c.print_refusal.ensures.value, c.print_refusal.ensures.out_after)
+returns c =
+    let told = c.print_refusal.ensures in
+    rw (← c.from.ensures) (prints _ c.args.out.now _ _ 0 0 (omega arith) (omega arith) c.requires (told.value, told.out_after))

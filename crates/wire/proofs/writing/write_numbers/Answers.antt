@@ -10,31 +10,10 @@ use Rattle.wire.proofs.writing.write_numbers.Goals as goal
 pub loop-i-init : goal.loop-i-init
 loop-i-init c = filled_none
 
-pub overflow_mul-i : goal.overflow_mul-i
-overflow_mul-i c = omega arith
-
-pub offset_bounds-numbers-i : goal.offset_bounds-numbers-i
-offset_bounds-numbers-i c = omega arith
-
-pub bounds-numbers-i : goal.bounds-numbers-i
-bounds-numbers-i c = omega arith
-
-pub put_number-requires : goal.put_number-requires
-put_number-requires c = omega arith
-
-pub overflow_add-i : goal.overflow_add-i
-overflow_add-i c = omega arith
-
-pub loop-i-smaller : goal.loop-i-smaller
-loop-i-smaller c = omega arith
-
 pub loop-i-preserved : goal.loop-i-preserved
 loop-i-preserved c =
     filled_next c.loop-i.invariant (eight_wide c.args.numbers.now) (omega arith) c.loop-i-test.true c.put_number.ensures refl
 
-pub shape_of-bytes : goal.shape_of-bytes
-shape_of-bytes c = c.loop-i.invariant.size
-
 pub returns : goal.returns
 unfolding bytes_written
-returns c = filled_all c.loop-i.invariant c.loop-i-test.false ∙ rw c.smaller-count.ensures
+returns c = filled_all c.loop-i.invariant c.loop-i-test.false ∙ rw c.min-count.ensures
