@@ -32,6 +32,7 @@ pub fn row_at(text: &[u8], at: usize, most: u32, out: &mut [u32], first: usize) 
     ensures out_after { out.new ≡ sets out.old first (row_at most text.now at).said }
 {
     let mut i = at;
+    // The index goes on by itself beside the count: past the end of the slice it stays.
     let mut k = first;
     for count in 0..most {
         let Field { value, end, next } = field_at(text, i)?;

@@ -5,7 +5,7 @@ ghost use Rattle.numerals.specs.Lines.{field_bytes};
 ghost use Rattle.numerals.specs.Put.{Put, end_before, field_room, no_room, line_put};
 
 // Puts the digits of a number: those of its tenth first, which are all but the last.
-// By hand, not by the library's itoa: that writes into 40 bytes of its own, from which the digits would have to be copied here.
+// By hand, not by the library's itoa: its text would be copied here from 40 bytes of its own, and shown to be `decimal`, which this follows step by step.
 #[tactic(auto, using(crate::proofs::PutLaws::number_laws))]
 fn put_number(out: &mut [u8], at: usize, n: u64) -> usize
     requires { at + length (decimal n) ≤ length out.old }

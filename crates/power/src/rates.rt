@@ -14,6 +14,7 @@ const RATES: [(u64, u64); 4] = [
 
 const LAST_RATE: u64 = 46_170;
 
+// Sum and count stay two parameters of this and of `credit_of`: the definitions take them apart, and `Sums` is what a walk has so far.
 // The rate of a power, in thousandths of a dollar a kW: the table of rule 11.8, row by row. A kW is 12,000 twelfths of a W for each event.
 #[tactic(auto, using(crate::proofs::RateLaws::rate_laws))]
 fn rate_of(sum: u64, count: u64) -> u64

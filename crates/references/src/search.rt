@@ -8,7 +8,8 @@ use arrayvec::ArrayVec;
 use calendar::{DAYS_FROM_8_MARCH, Kind, PASSED_HOUR, Winter};
 
 // The day that lacks a warm-up hour of an event: the Sunday the clocks go forward, where the passed hour begins five, four or three hours
-// before its start. Of any other event it is none, and none need be asked for before that Sunday can be: up to 8 March.
+// before its start. Of any other event it is none, and none need be asked for before that Sunday can be: up to 8 March. That the winter is one stays a
+// `requires`: a type for it would be made for this call and opened here.
 fn lacking_day(w: Winter, day: u32, start: u32) -> Option<u32>
     requires { wrong_winter w ≡ false }
     ensures { result ≡ lacking_day w day start }

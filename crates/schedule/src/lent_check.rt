@@ -12,7 +12,8 @@ use calendar::Winter;
 use notices::Profile;
 use refusals::{Refusal, Rule};
 
-// Whether a lent list stands in a winter whose facts are at hand. Bytes over make it too long (rule 9.3).
+// Whether a lent list stands in a winter whose facts are at hand. Bytes over make it too long (rule 9.3). It goes the steps of `check_in` by itself: a
+// `LentNumbers` can be made only where the length is right. That the winter is one it is told by `check_lent`, which has just made it.
 fn check_lent_in(w: Winter, p: Profile, list: &[u8]) -> Result<(), Refusal>
     requires { wrong_winter w ≡ false }
     ensures { verdict_paper result ≡ checked_in w p (decoded list.now) }

@@ -10,7 +10,7 @@ use energy::Event;
 const NO_EVENT: Event = Ok(0);
 
 // The event that the notice at index k is, its start and length taken from its day's bits. Where winter, book, masks, list and index make no
-// event it says nothing.
+// event it says nothing. Winter, book and masks stay three parameters, as in `settle_event`.
 #[tactic(auto, using(crate::proofs::EventLaws::event_or_none), unfolding(crate::specs::Events::event_in))]
 pub fn event_at(w: Winter, book: &[u32], masks: &[u32; 152], list: &[u32], k: usize) -> Event
     ensures { event_paper result ≡ event_in w book.now masks.now list.now k }
