@@ -4,13 +4,12 @@ use Prim.Native.Nat.{ℕ}
 use mathlib.Core.Path.{◌≡◌, ap}
 use native.Mathlib.Omega.{arith}
 use Rattle.std.proofs.lemmas.Option.{same_Some}
-use Rattle.std.specs.Prelude.{Option, Some, Result, Ok, Err}
+use Rattle.std.specs.Prelude.{Some, Result, Ok, Err}
 use Rattle.form.specs.Form.{top}
 use Rattle.form.specs.Lines.{breaks, head}
-use Rattle.form.specs.Places.{hours, placed}
+use Rattle.form.specs.Places.{hours}
 use Rattle.form.specs.declared.lines.BrokenLine.{BrokenLine}
 use Rattle.form.specs.declared.lines.Head.{Head}
-use Rattle.form.specs.declared.lines.Placed.{Placed}
 use Rattle.form.specs.declared.places.Hours.{Hours}
 use Rattle.form.specs.declared.whole.Top.{Top}
 
@@ -49,6 +48,3 @@ pub top_parts : {w p n a v q m b : ℕ} → ◌≡◌ {A = Result Top BrokenLine
 top_parts e =
     let same = same_Ok _ _ e in
     (ap (λ (x : Top). x.winter) same, ap (λ (x : Top). x.price) same, ap (λ (x : Top). x.events) same, ap (λ (x : Top). x.next) same)
-
-pub placed_parts : {p q : ℕ} {m n : Option ℕ} → ◌≡◌ {A = Result Placed BrokenLine} (Ok (placed p m)) (Ok (placed q n)) → (p ≡ q) × (m ≡ n)
-placed_parts e = let same = same_Ok _ _ e in (ap (λ (x : Placed). x.next) same, ap (λ (x : Placed). x.misplaced) same)

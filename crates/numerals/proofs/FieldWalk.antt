@@ -51,9 +51,6 @@ pub record FieldsLeft (came : List ℕ) (at : ℕ) (ns out : List ℕ) (i k : �
   pub ends : i + length (number_bytes (drop k ns)) ≡ at + length (number_bytes ns)
   pub stores : sets came at (number_bytes ns) ≡ sets out i (number_bytes (drop k ns))
 
-pub fields_start : (came : List ℕ) (at : ℕ) (ns : List ℕ) → FieldsLeft came at ns came at 0
-fields_start came at ns = record { within = omega arith; reach = omega arith; size = refl; ends = refl; stores = refl }
-
 module _ {came : List ℕ} {at : ℕ} {ns out : List ℕ} {i k : ℕ} (h : FieldsLeft came at ns out i k) where
   pub fields_next : {end next : ℕ} {after : List ℕ} → k < length ns → end ≡ end_before (ltb (k + 1) (length ns))
       → Put out i (decimal (get_or ns k 0) ++ (end ∷ [])) next after → next ≤ i + field_room → FieldsLeft came at ns after next (k + 1)

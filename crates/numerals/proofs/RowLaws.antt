@@ -13,7 +13,6 @@ use Rattle.numerals.specs.Fields.{after_step, field_at, field}
 use Rattle.numerals.specs.Rows.{Read, ahead, no_number, after_end, row_at, row_told, next_index, row}
 use Rattle.numerals.specs.Words.{comma, line_end}
 use Rattle.numerals.proofs.Stores.{stored}
-use Rattle.numerals.proofs.Ways.{row_parts}
 use Rattle.numerals.specs.declared.rows.Row.{Row}
 
 -- numbers that are told after k others are told after one more
@@ -80,23 +79,3 @@ module _ {all : Read (List ℕ)} {came : List ℕ} {first : ℕ} {rest : Read (L
   left_broken e = (sym (h.tells ∙ rw e), sym (h.stores ∙ rw e))
 
 pub ruleset broken_laws = (left_broken, row_done, row_none)
-
--- what is told of the numbers of a line: that they are broken, or how many they are and where they end
-abbrev pub Told : Read (List ℕ) → ℕ → ℕ → Type 0
-Told r count p = (r.end ≡ Some p) × (count ≡ length r.said)
-
-pub told_broken : (r : Read (List ℕ)) → None ≡ row_told 0 r → r.end ≡ None
-told_broken r e = by r.end e
-  where
-    by : (x : Option ℕ) → None ≡ after_step None x (λ p. Some (row (0 + length r.said) p)) → x ≡ None
-    by (Some p) e = let z : ◌≡◌ {A = ℕ} 0 1 = cc in absurd (omega arith)
-    by None e = refl
-
-pub told_of : (r : Read (List ℕ)) (count p : ℕ) → Some (row count p) ≡ row_told 0 r → Told r count p
-told_of r count p e = by r.end e
-  where
-    by : (x : Option ℕ) → Some (row count p) ≡ after_step None x (λ q. Some (row (0 + length r.said) q)) → (x ≡ Some p) × (count ≡ length r.said)
-    by (Some q) e =
-        let same = row_parts e in
-        (ap Some (sym same.1), omega (arith, same.0))
-    by None e = let z : ◌≡◌ {A = ℕ} 0 1 = cc in absurd (omega arith)

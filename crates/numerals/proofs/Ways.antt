@@ -8,10 +8,8 @@ use borrow.Author.Tests.{eqb-true}
 use Rattle.std.proofs.lemmas.Option.{none-some, same_Some}
 use Rattle.std.specs.Prelude.{Option, Some, None}
 use Rattle.numerals.specs.Fields.{after_field, after_number, after_step, field, number}
-use Rattle.numerals.specs.Rows.{row}
 use Rattle.numerals.specs.declared.fields.Field.{Field}
 use Rattle.numerals.specs.declared.fields.Number.{Number}
-use Rattle.numerals.specs.declared.rows.Row.{Row}
 
 -- which branch of a test gave an answer: either, the first alone, the second alone
 module _ {A : Type 0} where
@@ -45,9 +43,6 @@ field_parts e =
 
 pub number_parts : {v p w q : ℕ} → Some (number v p) ≡ Some (number w q) → (v ≡ w) × (p ≡ q)
 number_parts e = let same = same_Some _ _ e in (ap (λ (x : Number). x.value) same, ap (λ (x : Number). x.next) same)
-
-pub row_parts : {v p w q : ℕ} → Some (row v p) ≡ Some (row w q) → (v ≡ w) × (p ≡ q)
-row_parts e = let same = same_Some _ _ e in (ap (λ (x : Row). x.count) same, ap (λ (x : Row). x.next) same)
 
 -- what came first where it went on after a field that a certain byte ends, after a number, or after a step
 module _ {A P : Type 0} {z : A} (broken : A) (never : broken ≡ z → ⊥) where
