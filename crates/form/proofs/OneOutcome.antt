@@ -1,5 +1,5 @@
--- No second outcome fits: an answer of `read_text` is the form that the definition makes. On paper it is what the call answers, and a form whose
--- misplaced line, if it has one, is counted from 1 is read back from its number and values there.
+-- No second outcome fits: an answer of `read_text` is the form that the definition makes. On paper it is what the call answers, and a form is read
+-- back from its number and values there; the misplaced line of a text's form, if it has one, is counted from 1.
 -- Assumes nothing.
 use Prim.Native.Nat.{ℕ, zero, suc, ◌+◌, ◌<◌}
 use mathlib.Core.Bool.{Bool, true, false, cond}
@@ -8,10 +8,9 @@ use mathlib.Core.Path.{◌≡◌, refl, sym, ap, ◌∙◌}
 use native.Mathlib.Omega.{arith}
 use lib.ListN.{length}
 use Rattle.std.proofs.lemmas.Option.{none-some, same_Some}
-use Rattle.std.specs.Option.{unwrap_or}
 use Rattle.std.specs.Prelude.{Option, None, Some, Result, Ok, Err}
-use Rattle.laws.specs.Answer.{Answer}
-use Rattle.form.specs.Answers.{form_paper, form_answer}
+use Rattle.laws.proofs.ReadBack.{read_back}
+use Rattle.form.specs.Answers.{misplaced_told, form_paper, form_answer}
 use Rattle.form.specs.Document.{ReadLine}
 use Rattle.form.specs.Form.{form_of}
 use Rattle.form.specs.Places.{end_of, misplaced, misplaced_in, book_days}
@@ -46,30 +45,29 @@ form_counted s f e z =
     (sym (says_held s f e h).misplaced ∙ z)
 
 -- a form is read back
-line_back : ℕ → Option ℕ
-line_back zero = None
-line_back (suc k) = Some (suc k)
+line_back : List ℕ → Option ℕ
+line_back [] = Some 0
+line_back (zero ∷ vs) = None
+line_back (suc k ∷ vs) = Some (suc k)
 
-line_back_lem : (line : Option ℕ) → (line ≡ Some 0 → ⊥) → line_back (unwrap_or line 0) ≡ line
+line_back_lem : (line : Option ℕ) → line_back (misplaced_told line) ≡ line
 unfolding line_back
-line_back_lem None c = refl
-line_back_lem (Some zero) c = absurd (c refl)
-line_back_lem (Some (suc k)) c = refl
+line_back_lem None = refl
+line_back_lem (Some zero) = refl
+line_back_lem (Some (suc k)) = refl
 
 form_back : List ℕ → Result Shape BrokenLine
 form_back [] = Err (record { line = 0 })
 form_back (w ∷ []) = Err (record { line = w })
 form_back (w ∷ (p ∷ [])) = Err (record { line = w })
-form_back (w ∷ (p ∷ (e ∷ []))) = Err (record { line = w })
-form_back (w ∷ (p ∷ (e ∷ (m ∷ vs)))) = Ok (record { winter = w; price = p; events = e; misplaced = line_back m })
+form_back (w ∷ (p ∷ (e ∷ line))) = Ok (record { winter = w; price = p; events = e; misplaced = line_back line })
 
-form_back_lem : (r : Result Shape BrokenLine) → Counted r → form_back (form_paper r).values ≡ r
-unfolding form_back Counted
-form_back_lem (Ok f) c =
-    ap (λ (line : Option ℕ). Ok (record { winter = f.winter; price = f.price; events = f.events; misplaced = line })) (line_back_lem f.misplaced (c f refl))
-form_back_lem (Err broken) c = refl
-
--- what an answer tells
-pub form_is : (f : Result Shape BrokenLine) (s : List ℕ) → Counted f → form_paper f ≡ form_answer s → f ≡ form_of s
-unfolding form_answer
-form_is f s c e = sym (form_back_lem f c) ∙ ap (λ (a : Answer). form_back a.values) e ∙ form_back_lem (form_of s) (form_counted s)
+-- what an answer of `read_text` tells
+pub form_is : (f : Result Shape BrokenLine) (s : List ℕ) → form_paper f ≡ form_answer s → f ≡ form_of s
+unfolding form_back form_answer
+form_is f s e = read_back form_paper (λ a. form_back a.values) inv f (form_of s) (form_paper (form_of s)) e refl
+  where
+    inv : (r : Result Shape BrokenLine) → form_back (form_paper r).values ≡ r
+    inv (Ok f) =
+        ap (λ (line : Option ℕ). Ok (record { winter = f.winter; price = f.price; events = f.events; misplaced = line })) (line_back_lem f.misplaced)
+    inv (Err broken) = refl
