@@ -22,7 +22,7 @@ use Rattle.book.proofs.LengthLaws.{right_length, length_right}
 
 module _ (w readings : ℕ) where
   module _ (r : Option ℕ) (e : days_paper r ≡ winter_days w) where
-    winter_refused : r ≡ None → refusal_at 1 0 ≡ first_of (book_rows w readings)
+    pub winter_refused : r ≡ None → refusal_at 1 0 ≡ first_of (book_rows w readings)
     unfolding book_rows
     winter_refused q = row_stops _ _ (no_winter_lem w r q e)
 

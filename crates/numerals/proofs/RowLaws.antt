@@ -30,7 +30,7 @@ module _ (most count : ℕ) (s : List ℕ) (at : ℕ) where
   row_done h = let z : most - count ≡ 0 = omega arith in rw z
 
   module _ (h : count < most) where
-    row_turn : row_at (most - count) s at ≡ after_end (field_at s at) (λ p. row_at (most - (count + 1)) s p)
+    pub row_turn : row_at (most - count) s at ≡ after_end (field_at s at) (λ p. row_at (most - (count + 1)) s p)
     unfolding row_at
     row_turn = let m : most - count ≡ suc (most - (count + 1)) = omega arith in ap (λ (k : ℕ). row_at k s at) m
 
