@@ -1,4 +1,4 @@
--- Number and place in one number: rule 9.5.
+-- Number and place in one number: rule 9.5. A place is at most 65,535 (rule 9.6), so that nothing of it is cut off.
 -- Assumes nothing.
 use Rattle.std.specs.Prelude.{ℕ, ◌+◌, ◌*◌, ◌%◌, Result}
 use Rattle.refusals.specs.Refusals.{number_of, place_of}
