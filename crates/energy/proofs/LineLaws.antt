@@ -3,9 +3,10 @@
 use Prim.Native.Nat.{ℕ, ◌≤◌, ◌<◌}
 use mathlib.Core.Bool.{Bool, false}
 use mathlib.Core.List.{List}
-use mathlib.Core.Path.{◌≡◌}
+use mathlib.Core.Path.{◌≡◌, refl, sym, ◌∙◌}
 use native.Mathlib.Omega.{arith}
 use lib.ListN.{length, get_or}
+use lib.Seq.{take_all}
 use borrow.Author.Tests.{lt-ltb}
 use Rattle.book.proofs.PartLaws.{part_earlier}
 use Rattle.book.specs.Part.{no_part}
@@ -19,6 +20,8 @@ use Rattle.energy.specs.Ready.{PartsReady}
 use Rattle.references.specs.ReferenceDays.{serves, reference_days}
 use Rattle.energy.specs.Event.{Event, unsettled}
 use Rattle.energy.specs.declared.hours.Hours.{Hours}
+use Rattle.references.specs.declared.search.Refs.{Refs}
+use Rattle.references.proofs.FoundLaws.{Finds}
 use Rattle.references.proofs.Nearest.{Passes, refs_serve, refs_few}
 
 -- the search's answer r: fewer than five days, or the five
@@ -43,3 +46,11 @@ module _ (w : Winter) (free : ℕ → Bool) (n : Notice) (r : List ℕ) (found :
     pub line_five : (book : List ℕ) {e : Event} → e ≡ line_of book (asked_in n.day hours r) → e ≡ line_of book (asked_by w free n)
     unfolding asked_by
     line_five book q = rw (← is.warm_are, ← is.event_are, ← found) q
+
+-- the call's answer r: it counts fewer than five days, or its array is the five
+module _ (w : Winter) (free : ℕ → Bool) (n : Notice) (r : Refs) (found : Finds (reference_days w free n.day n.start) r) where
+  pub counted_few : (book : List ℕ) → r.count < 5 → unsettled 20 0 ≡ line_of book (asked_by w free n)
+  counted_few book few = line_few w free n (reference_days w free n.day n.start) refl book (λ e. omega (arith, found.counted))
+
+  pub days_are : 5 ≤ r.count → r.days ≡ reference_days w free n.day n.start
+  days_are enough = sym (take_all r.count r.days (omega (arith, found.long))) ∙ found.first

@@ -52,9 +52,10 @@ pub(crate) fn line_in(w: Winter, book: &[u32], masks: &[u32; 152], n: Notice) ->
     requires { EventReady w (length book.now) n }
     ensures { event_paper result ≡ line_of book.now (asked_by w (free_in masks.now) n) }
 {
-    let Ok(refs) = reference_days(w, masks, n.day, n.start).into_inner() else {
+    let found = reference_days(w, masks, n.day, n.start);
+    if found.count < 5 {
         return Err(Unsettled::FewDays);
-    };
+    }
     let hours = hours_of(w, n.day, n.start, n.end);
-    SixDays::fetch(w, book, n.day, refs).line(hours)
+    SixDays::fetch(w, book, n.day, found.days).line(hours)
 }

@@ -1,26 +1,28 @@
 -- When a day serves, and how the search that passes over the days that carry an event comes to the reference days: a day that carries an
 -- event serves no other, so that the same days are found.
 -- Assumes nothing.
-use Prim.Native.Nat.{ℕ, zero, suc, ◌-◌, ◌≤◌, ◌<◌}
+use Prim.Native.Nat.{ℕ, zero, suc, ◌+◌, ◌-◌, ◌≤◌, ◌<◌}
 use mathlib.Core.Bool.{Bool, true, false, not, cond, ◌&&◌, beq}
-use mathlib.Core.List.{List, []}
-use mathlib.Core.Path.{◌≡◌, refl, ◌∙◌}
+use mathlib.Core.List.{List, [], ◌∷◌, ◌++◌}
+use mathlib.Core.Path.{◌≡◌, refl, ap, ◌∙◌}
 use native.Mathlib.Omega.{arith}
 use lib.Dec.{eqb}
-use lib.ListN.{get_or}
+use lib.ListN.{length, get_or, take, set, length-append, length-replicate}
 use borrow.Author.Tests.{eq-eqb, ne_eqb}
+use Rattle.std.proofs.lemmas.List.{take_more_set}
 use Rattle.std.specs.Option.{option_eq}
 use Rattle.std.specs.Prelude.{Option, Some}
 use Rattle.calendar.specs.Excluded.{excluded}
 use Rattle.calendar.specs.Weekdays.{weekend}
 use Rattle.calendar.specs.declared.answers.Kind.{Kind}
 use Rattle.calendar.specs.declared.answers.Winter.{Winter}
-use Rattle.references.specs.ReferenceDays.{free_in, has_each, serves, before, reference_days}
+use Rattle.references.specs.ReferenceDays.{free_in, has_each, serves, before, reference_days, refs_of}
 use Rattle.references.specs.Search.{past_events, lacking_day, free_serves, BookDay, OnDay}
 use Rattle.references.specs.WarmUp.{warm_up}
+use Rattle.references.specs.declared.search.Refs.{Refs}
 use Rattle.references.proofs.LackingDay.{has_warm_up}
 use Rattle.references.proofs.PastEvents.{past_free, past_le, onward_here, onward_next, onward_none}
-use Rattle.references.proofs.SearchLaws.{Search, before_no, search_start}
+use Rattle.references.proofs.SearchLaws.{Search, before_no, search_start, search_took, search_passed, held_more}
 
 -- a day is free exactly where its mask is 0
 pub zero_free : (masks : List ℕ) (d : ℕ) → get_or masks d 0 ≡ 0 → free_in masks d ≡ true
@@ -87,3 +89,33 @@ module _ (w : Winter) (free : ℕ → Bool) (day s : ℕ) where
   pub walk_start : Walk [] (past_events free day)
   unfolding reference_days
   walk_start = walk_on [] day (omega arith) (search_start (serves w free day s) day)
+
+  -- where the code stands, which holds what is found as the call gives it
+  pub record Stand (days : List ℕ) (count d : ℕ) : Type 0 where
+    pub held : ◌≡◌ {A = Refs} (record { days = days; count = count }) (refs_of (take count days))
+    pub walk : Walk (take count days) d
+
+  -- a turn at day d, the one before n: it is taken, or is passed over
+  module _ (days : List ℕ) (count n d : ℕ) (next : n ≡ suc d) (stand : Stand days count n) where
+    abbrev found : List ℕ
+    found = take count days
+
+    pub walk_took : count < 5 → serves w free day s d ≡ true → Stand (set days count d) (count + 1) (past_events free d)
+    walk_took room t =
+        let counted : count ≡ length found = ap (λ (r : Refs). r.count) stand.held in
+        let days_are : days ≡ (refs_of found).days = ap (λ (r : Refs). r.days) stand.held in
+        let long : length days ≡ 5 = ap length days_are ∙ simp (length-append, length-replicate) (omega arith) in
+        let more : take (count + 1) (set days count d) ≡ found ++ d ∷ [] = take_more_set days count d (omega arith) in
+        let stored : set days count d ≡ (refs_of (found ++ d ∷ [])).days =
+        ap (λ (ds : List ℕ). set ds count d) days_are ∙ held_more found d count counted room in
+        let longer : count + 1 ≡ length (found ++ d ∷ []) = omega (arith, length-append found (d ∷ [])) in
+        record {
+          held = rw (more, stored, longer) refl;
+          walk = walk_on _ d (omega (arith, stand.walk.within)) (search_took _ _ found n d next stand.walk.search (omega arith) t _ more);
+        }
+
+    pub walk_passed : serves w free day s d ≡ false → Stand days count (past_events free d)
+    walk_passed t = record {
+      held = stand.held;
+      walk = walk_on found d (omega (arith, stand.walk.within)) (search_passed _ _ found n d next stand.walk.search t);
+    }

@@ -6,9 +6,9 @@ use mathlib.Core.Bool.{Bool, true, false}
 use mathlib.Core.List.{List, [], ◌∷◌, ◌++◌, append_assoc, append-nil}
 use mathlib.Core.Path.{◌≡◌, refl, sym, ap, ◌∙◌}
 use native.Mathlib.Omega.{arith}
-use lib.ListN.{length, take, length-append}
-use lib.Seq.{take-nil}
-use Rattle.references.specs.ReferenceDays.{before}
+use lib.ListN.{length, take, set, length-append}
+use lib.Seq.{take-nil, set-append_seam}
+use Rattle.references.specs.ReferenceDays.{before, refs_of}
 
 -- at most five are found, and the others that are wanted are the nearest before d that pass
 pub record Search (ok : ℕ → Bool) (want found : List ℕ) (d : ℕ) : Type 0 where
@@ -49,3 +49,9 @@ unfolding before
 search_through ok want found d s h =
     let z : d ≡ 0 = omega arith in
     sym (append-nil found) ∙ (rw (z, take-nil {A = ℕ} (5 - length found)) at s.rest)
+
+-- what is found is held as its days with zeros behind them, and their count: the next one is stored where the count says
+pub held_more : (found : List ℕ) (d count : ℕ) → count ≡ length found → count < 5 → set (refs_of found).days count d ≡ (refs_of (found ++ d ∷ [])).days
+held_more found d count is room =
+    let left : 5 - length found ≡ suc (5 - (length found + 1)) = omega arith in
+    rw (is, length-append, left, set-append_seam, append_assoc) refl

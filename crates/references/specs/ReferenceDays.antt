@@ -1,6 +1,6 @@
 -- Reference days.
 -- Assumes nothing.
-use Rattle.std.specs.Prelude.{ℕ, zero, suc, Bool, true, not, cond, ◌&&◌, ◌||◌, List, [], ◌∷◌, eqb, get_or, take}
+use Rattle.std.specs.Prelude.{ℕ, zero, suc, ◌-◌, Bool, true, not, cond, ◌&&◌, ◌||◌, List, [], ◌∷◌, ◌++◌, eqb, length, get_or, take, replicate}
 use Rattle.std.specs.Bool.{beq}
 use Rattle.calendar.specs.Clocks.{has_hour}
 use Rattle.calendar.specs.Days.{wrong_winter, no_day}
@@ -8,6 +8,7 @@ use Rattle.calendar.specs.Excluded.{excluded}
 use Rattle.calendar.specs.Weekdays.{weekend}
 use Rattle.calendar.specs.declared.answers.Winter.{Winter}
 use Rattle.references.specs.WarmUp.{warm_up}
+use Rattle.references.specs.declared.search.Refs.{Refs}
 
 -- rule 5.5: the days without an event, by the masks of all days; the masks enter the rules here and nowhere else
 unfoldable pub free_in : List ℕ → ℕ → Bool
@@ -35,6 +36,10 @@ before ok (suc d) = with_day (ok d) d (before ok d)
 unfoldable pub reference_days : Winter → (ℕ → Bool) → ℕ → ℕ → List ℕ
 reference_days w free day s = take 5 (before (serves w free day s) day)
 
+-- as the call gives them: five numbers and a count, the days first and zeros behind them
+abbrev pub refs_of : List ℕ → Refs
+refs_of ds = record { days = ds ++ replicate (5 - length ds) 0; count = length ds }
+
 -- the call: a wrong winter or a day outside the book has no days
-unfoldable pub refs_in : Winter → (ℕ → Bool) → ℕ → ℕ → List ℕ
-refs_in w free day s = cond (wrong_winter w || no_day w day) [] (reference_days w free day s)
+unfoldable pub refs_in : Winter → (ℕ → Bool) → ℕ → ℕ → Refs
+refs_in w free day s = refs_of (cond (wrong_winter w || no_day w day) [] (reference_days w free day s))

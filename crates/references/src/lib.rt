@@ -3,4 +3,4 @@
 
 mod search;
 
-pub use search::reference_days;
+pub use search::{Refs, reference_days};

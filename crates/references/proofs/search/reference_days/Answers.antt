@@ -14,4 +14,4 @@ returns-in-Ok c =
     c.nearest_before.ensures ∙ refs_given _ _ _ _ on_day.day
 
 pub returns-in-Err : goal.returns-in-Err
-returns-in-Err c = c.new.ensures ∙ refs_none _ _ _ _ _ _ c.in-Err.is c.kind_of.ensures
+returns-in-Err c = c.no_refs.ensures ∙ refs_none _ _ _ _ _ _ c.in-Err.is c.kind_of.ensures
