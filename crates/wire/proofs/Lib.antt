@@ -3,3 +3,4 @@ pub mod WriteLaws
 pub mod RoundTrip
 pub mod LentBack
 pub mod DecodedLaws
+pub mod ShownRoom

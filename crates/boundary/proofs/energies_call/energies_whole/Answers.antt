@@ -13,19 +13,19 @@ use Rattle.boundary.proofs.energies_call.energies_whole.Goals as goal
 
 pub slice_bounds-room-end : goal.slice_bounds-room-end
 slice_bounds-room-end c =
-    let long = read_long c.args.list.now longest_list c.read_front-list.ensures (omega arith) in
+    let long = read_long c.args.list.now longest_list c.read_front-list.ensures.value (omega arith) in
     omega (arith, long, c.count_in.ensures)
 
 pub slice_bounds-lines-end : goal.slice_bounds-lines-end
 slice_bounds-lines-end c =
-    let long = read_long c.args.list.now longest_list c.read_front-list.ensures (omega arith) in
+    let long = read_long c.args.list.now longest_list c.read_front-list.ensures.value (omega arith) in
     sym (length-take-le _ _ (omega (arith, long, c.count_in.ensures)))
 
 pub returns-in_err-energies : goal.returns-in_err-energies
 returns-in_err-energies c =
-    let book_is = read_is c.args.book.now most_readings c.read_front-book.ensures (omega arith) in
-    let list_is = read_is c.args.list.now longest_list c.read_front-list.ensures (omega arith) in
-    let long = read_long c.args.list.now longest_list c.read_front-list.ensures (omega arith) in
+    let book_is = read_is c.args.book.now most_readings c.read_front-book.ensures.value (omega arith) in
+    let list_is = read_is c.args.list.now longest_list c.read_front-list.ensures.value (omega arith) in
+    let long = read_long c.args.list.now longest_list c.read_front-list.ensures.value (omega arith) in
     let lines = c.count_in.ensures in
     rw (← book_is, ← list_is)
     (just_refused _ c.read_front-book.result.now c.read_front-list.result.now _ c.args.out.now
@@ -34,9 +34,9 @@ returns-in_err-energies c =
 
 pub returns : goal.returns
 returns c =
-    let book_is = read_is c.args.book.now most_readings c.read_front-book.ensures (omega arith) in
-    let list_is = read_is c.args.list.now longest_list c.read_front-list.ensures (omega arith) in
-    let long = read_long c.args.list.now longest_list c.read_front-list.ensures (omega arith) in
+    let book_is = read_is c.args.book.now most_readings c.read_front-book.ensures.value (omega arith) in
+    let list_is = read_is c.args.list.now longest_list c.read_front-list.ensures.value (omega arith) in
+    let long = read_long c.args.list.now longest_list c.read_front-list.ensures.value (omega arith) in
     let lines = c.count_in.ensures in
     rw (← book_is, ← list_is)
     (just_lines _ c.read_front-book.result.now c.read_front-list.result.now _ c.args.out.now
