@@ -93,7 +93,7 @@ extern "C" {
 #define IBISLADDER_MISSING 4294967295u   /* in a book: there is no reading of this hour */
 
 /*
- * Bytes of stack that a call needs, at most. By the code: 20,624 in ibisladder_settle, 19,552 in ibisladder_power, 56 in
+ * Bytes of stack that a call needs, at most. By the code: 20,720 in ibisladder_settle, 19,664 in ibisladder_power, 56 in
  * ibisladder_check.
  */
 #define IBISLADDER_STACK_BYTES 24576u
